@@ -1,0 +1,5 @@
+-- Laws of what every rule is said with, for the crates above.
+pub mod Tests
+pub mod Order
+pub mod LittleEndian
+pub mod Statements

@@ -1,0 +1,66 @@
+-- Laws of an order of refusals: a test that holds, a test that fails, what an acceptance says, exactly when.
+use Prim.Native.Nat.{ℕ}
+use mathlib.Core.Path.{_≡_, refl, sym, ap, _∙_, subst}
+use mathlib.Core.Logic.{_↔_}
+use mathlib.Core.Bool.{Bool, true, false}
+use Rattle.basis.specs.Order.{Answer, refused, accepted, Order, check, give, answer, isAccepted}
+use Rattle.basis.specs.Order.{First, here, later, Passed, end, after}
+use Rattle.basis.proofs.Tests.{never}
+
+module _ {A : Type 0} where
+  -- A test that holds leaves the answer to the rest.
+  pub passes : (n : ℕ) (rest : Order A) {t : Bool} → t ≡ true → answer (check t n rest) ≡ answer rest
+  unfolding answer
+  passes n rest e = rw e
+
+  -- A test that fails gives its number.
+  pub fails : (n : ℕ) (rest : Order A) {t : Bool} → t ≡ false → answer (check t n rest) ≡ refused n
+  unfolding answer
+  fails n rest e = rw e
+
+  pub gives : (a : A) → answer (give a) ≡ accepted a
+  unfolding answer
+  gives a = refl
+
+  -- A refusal is no acceptance.
+  pub apart : {B : Type 0} {n : ℕ} {a : A} → _≡_ {A = Answer A} (refused n) (accepted a) → B
+  apart e = never refl (sym (ap isAccepted e))
+
+  -- What an acceptance says of the first test, and of the rest.
+  pub held : (t : Bool) (n : ℕ) (rest : Order A) {a : A} → answer (check t n rest) ≡ accepted a
+      → (t ≡ true) × (answer rest ≡ accepted a)
+  unfolding answer
+  held true n rest e = (refl, e)
+  held false n rest e = apart e
+
+  first-of : (order : Order A) (n : ℕ) → answer order ≡ refused n → First n order
+  unfolding answer
+  first-of (check true m rest) n e = later (first-of rest n e)
+  first-of (check false m rest) n e =
+      let same : m ≡ n = cc in
+      subst (λ k. First n (check false k rest)) (sym same) here
+  first-of (give a) n e = apart (sym e)
+
+  of-first : {order : Order A} {n : ℕ} → First n order → answer order ≡ refused n
+  unfolding answer
+  of-first here = refl
+  of-first (later f) = of-first f
+
+  passed-of : (order : Order A) (a : A) → answer order ≡ accepted a → Passed a order
+  unfolding answer
+  passed-of (check true m rest) a e = after (passed-of rest a e)
+  passed-of (check false m rest) a e = apart e
+  passed-of (give b) a e =
+      let same : b ≡ a = cc in
+      subst (λ x. Passed a (give x)) (sym same) end
+
+  of-passed : {order : Order A} {a : A} → Passed a order → answer order ≡ accepted a
+  unfolding answer
+  of-passed end = refl
+  of-passed (after p) = of-passed p
+
+  pub exactly-number : (order : Order A) (n : ℕ) → (answer order ≡ refused n) ↔ First n order
+  exactly-number order n = (first-of order n, of-first)
+
+  pub exactly-result : (order : Order A) (a : A) → (answer order ≡ accepted a) ↔ Passed a order
+  exactly-result order a = (passed-of order a, of-passed)

@@ -1,0 +1,28 @@
+-- What is claimed of orders and of little-endian numbers. proofs/Statements.antt proves each record whole.
+use Prim.Native.Nat.{ℕ, _<_, _^_}
+use mathlib.Core.Path.{_≡_}
+use mathlib.Core.Logic.{_↔_}
+use mathlib.Core.List.{List}
+use lib.ListN.{length}
+use Rattle.basis.specs.Order.{Answer, refused, accepted, Order, answer, First, Passed}
+use Rattle.basis.specs.LittleEndian.{valueOf, littleEndian, Bytes}
+
+-- 'each given exactly when its rule says' (demand 1), once over any order.
+pub record ExactlyWhen : Type 1 where
+  -- A number comes back if and only if its test is the first of the order that fails.
+  pub number : {A : Type 0} (order : Order A) (n : ℕ) → (answer order ≡ refused n) ↔ First n order
+  -- A call is accepted with this answer if and only if no test fails and this is given.
+  pub result : {A : Type 0} (order : Order A) (a : A) → (answer order ≡ accepted a) ↔ Passed a order
+
+-- 'The record's width facts are proved once over the width.'
+pub record Width : Type 0 where
+  -- A number has as many bytes as the width says.
+  pub long : (width x : ℕ) → length (littleEndian width x) ≡ width
+  -- Each of them is a byte.
+  pub bytes : (width x : ℕ) → Bytes (littleEndian width x)
+  -- What is written is read back.
+  pub read : (width x : ℕ) → x < 256 ^ width → valueOf (littleEndian width x) ≡ x
+  -- What is read is written back.
+  pub written : (list : List ℕ) → Bytes list → littleEndian (length list) (valueOf list) ≡ list
+  -- Bytes hold no number that their width can't hold.
+  pub below : (list : List ℕ) → Bytes list → valueOf list < 256 ^ length list
