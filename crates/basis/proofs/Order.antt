@@ -33,6 +33,10 @@ module _ {A : Type 0} where
   held true n rest e = (refl, e)
   held false n rest e = apart e
 
+  pub given : (a : A) {b : A} → answer (give a) ≡ accepted b → a ≡ b
+  unfolding answer
+  given a e = cc
+
   first-of : (order : Order A) (n : ℕ) → answer order ≡ refused n → First n order
   unfolding answer
   first-of (check true m rest) n e = later (first-of rest n e)
