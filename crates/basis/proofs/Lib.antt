@@ -2,4 +2,5 @@
 pub mod Tests
 pub mod Order
 pub mod LittleEndian
+pub mod Lists
 pub mod Statements

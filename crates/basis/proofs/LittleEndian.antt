@@ -5,9 +5,10 @@ use mathlib.Core.List.{List, [], _∷_, _++_}
 use native.Mathlib.Nat.{pow-zero, pow-succ', mul-assoc}
 use native.Mathlib.Numerals.{add-one}
 use native.Mathlib.Omega.{arith}
-use lib.ListN.{length, take, drop, getD, length-drop}
-use lib.Seq.{drop-cons, getD-drop, take-add, length-take-le, drop-drop}
+use lib.ListN.{length, take, drop, getD}
+use lib.Seq.{drop-cons, getD-drop, take-add, drop-drop}
 use lib.Dec.{lit<}
+use Rattle.basis.proofs.Lists.{length-part}
 use Rattle.basis.specs.LittleEndian.{valueOf, littleEndian, Bytes}
 
 pub bytes-take : (n : ℕ) (list : List ℕ) → Bytes list → Bytes (take n list)
@@ -80,8 +81,7 @@ pub four-bytes : (i : ℕ) (list : List ℕ) → i + 4 ≤ length list
     → valueOf (take 4 (drop i list))
     ≡ valueOf (take 2 (drop i list)) + 65536 * valueOf (take 2 (drop (i + 2) list))
 four-bytes i list h =
-    let room : 2 ≤ length (drop i list) = rw length-drop (omega arith) in
-    let two : length (take 2 (drop i list)) ≡ 2 = length-take-le 2 (drop i list) room in
+    let two : length (take 2 (drop i list)) ≡ 2 = length-part 2 i list (omega arith) in
     rw (
       take-add 2 2 (drop i list),
       joined (take 2 (drop i list)) (take 2 (drop 2 (drop i list))),
