@@ -2,9 +2,9 @@
 use Prim.Native.Nat.{ℕ, zero, suc, _+_, _-_, _<_, _≤_}
 use mathlib.Core.Path.{_≡_, refl, sym, ap, _∙_}
 use mathlib.Core.List.{List, [], _∷_, _++_, append-nil}
-use native.Mathlib.Nat.{le-of-eq, zero-add, sub-zero, zero-sub, suc-sub-suc}
+use native.Mathlib.Nat.{le-of-eq, zero-add, suc-add, sub-zero, zero-sub, suc-sub-suc}
 use lib.ListN.{length, take, drop, replicate, getD, set, length-drop, drop-of-length-le}
-use lib.Seq.{length-take-le, take-all, getD-take, getD-drop, paste, paste-suc, drop-paste}
+use lib.Seq.{length-take-le, take-nil, take-all, getD-take, getD-drop, paste, paste-suc, drop-paste}
 use native.Mathlib.Omega.{arith}
 
 module _ {A : Type 0} where
@@ -16,6 +16,12 @@ module _ {A : Type 0} where
   drop-replicate zero n a = rw sub-zero
   drop-replicate (suc m) zero a = rw zero-sub
   drop-replicate (suc m) (suc n) a = rw suc-sub-suc (drop-replicate m n a)
+
+  -- The end of a front is the front of the end.
+  pub drop-take : (n m : ℕ) (l : List A) → drop n (take (n + m) l) ≡ take m (drop n l)
+  drop-take zero m l = rw zero-add
+  drop-take (suc n) m [] = ap (drop (suc n)) (take-nil (suc n + m)) ∙ sym (take-nil m)
+  drop-take (suc n) m (a ∷ l) = rw suc-add (drop-take n m l)
 
   -- A part is as long as it says.
   pub length-part : (n at : ℕ) (l : List A) → at + n ≤ length l → length (take n (drop at l)) ≡ n
