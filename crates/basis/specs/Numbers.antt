@@ -61,3 +61,7 @@ mostLever = 9
 -- 'at most 2,048'
 abbrev pub mostRecords : ℕ
 mostRecords = 2048
+
+-- 'pool/20,000 whole steps are made': the length of a step, in microseconds.
+abbrev pub stepLength : ℕ
+stepLength = 20000

@@ -1,0 +1,46 @@
+-- Document 01, 'Numbers given back' and 'Order', of a reading.
+use Prim.Native.Nat.{ℕ, _+_}
+use mathlib.Core.Bool.{Bool}
+use lib.Dec.{leb}
+use Rattle.basis.specs.Numbers.{BACKWARD, END, FAULT, mostSteps}
+use Rattle.basis.specs.Order.{Answer, refused, accepted, Order, check, give}
+use Rattle.clock.specs.Clock.{due, ticked, isSound}
+use Rattle.clock.specs.declared.Clock.{Clock}
+use Rattle.clock.specs.declared.Reading.{Reading}
+use Rattle.clock.specs.declared.Reading.the-variants.{Accepted, Refused}
+
+-- What an accepted reading gives: the new clock and the number of steps due.
+pub record Given : Type 0 where
+  pub clock : Clock
+  pub due : ℕ
+
+-- 'whole steps are made, and the rest of the pool is the new remainder'
+abbrev pub givenBy : ℕ → Clock → ℕ → Given
+givenBy length clock reading =
+    record { clock = ticked length clock reading; due = due length clock reading }
+
+-- 11 where this fails: 'reading below the last reading'
+abbrev pub notBackward : Clock → ℕ → Bool
+notBackward clock reading = leb (clock .last) reading
+
+-- 12 where this fails: 'steps made plus the steps due would pass 180,000'
+abbrev pub notPastEnd : ℕ → Clock → ℕ → Bool
+notPastEnd length clock reading = leb (clock .steps + due length clock reading) mostSteps
+
+-- 'Reading: 14, 11, 12.' Of 14 the clock's own share: its words are sound.
+unfoldable pub readingOrder : ℕ → Clock → ℕ → Order Given
+readingOrder length clock reading =
+    check (isSound length clock) FAULT
+    (check (notBackward clock reading) BACKWARD
+    (check (notPastEnd length clock reading) END
+    (give (givenBy length clock reading))))
+
+-- The number, or the values, of each case of the code's answer.
+abbrev pub answerOf : Reading → Answer Given
+answerOf (Accepted clock due) = accepted (record { clock = clock; due = due })
+answerOf (Refused number) = refused number
+
+-- The clock after an answer: an accepted reading's new clock; a refusal leaves it as before.
+abbrev pub clockLeft : Clock → Answer Given → Clock
+clockLeft clock (accepted given) = given .clock
+clockLeft clock (refused number) = clock

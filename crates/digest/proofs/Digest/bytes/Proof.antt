@@ -1,0 +1,54 @@
+-- `bytes` meets its contract. The loop's invariant: the digest of all the bytes is the one so far,
+-- continued over the bytes from `i` on.
+use Prim.Native.Nat.{_-_}
+use mathlib.Core.Path.{_≡_, refl, sym, _∙_}
+use borrow.Author.Needs.{needs}
+use lib.ListN.{length, drop, drop-of-length-le}
+use Rattle.digest.specs.Fnv.{fnv}
+use Rattle.digest.proofs.Fnv.{one-more}
+use Rattle.digest.proofs.Digest.bytes.Statement.{statement}
+use Rattle.digest.proofs.Digest.bytes.Tie as tie
+
+abbrev Inv-loop : tie.InvT-loop
+Inv-loop bytes digest₀ i₀ digest i = fnv (digest₀ .value) bytes ≡ fnv (digest .value) (drop i bytes)
+
+abbrev μ-loop : tie.MeasureT-loop
+μ-loop bytes digest₀ i₀ digest i = length bytes - i
+
+loop-holds : tie.Need-loop-holds Inv-loop μ-loop
+loop-holds c = refl
+
+shared-slice-read-byte : tie.Need-shared-slice-read-byte Inv-loop μ-loop
+shared-slice-read-byte c = search needs
+
+byte-requires : tie.Need-byte-requires Inv-loop μ-loop
+byte-requires c κs = search needs
+
+add-i : tie.Need-add-i Inv-loop μ-loop
+add-i c = search needs
+
+loop-less : tie.Need-loop-less Inv-loop μ-loop
+loop-less c = search needs
+
+loop-again : tie.Need-loop-again Inv-loop μ-loop
+loop-again c =
+    rw (c .byte .ensures)
+    (c .before .before .before .loop .inv ∙ one-more _ _ _ (shared-slice-read-byte (c .before)))
+
+returns : tie.Need-returns Inv-loop μ-loop
+unfolding fnv
+returns c = sym (rw (drop-of-length-le _ (c .loop-test .left)) at (c .before .loop .inv))
+
+pub bytes-spec : {M : Type 1} → statement M
+bytes-spec =
+    tie.close
+    (tie.spec
+    Inv-loop
+    μ-loop
+    loop-holds
+    shared-slice-read-byte
+    byte-requires
+    add-i
+    loop-less
+    loop-again
+    returns)

@@ -1,0 +1,23 @@
+-- `of_state` meets its contract: `word`, then continued over `words`, is one list of bytes.
+use mathlib.Core.Path.{sym}
+use borrow.Author.Needs.{needs}
+use Rattle.digest.proofs.Fnv.{continued}
+use Rattle.digest.proofs.Digest.of_state.Statement.{statement}
+use Rattle.digest.proofs.Digest.of_state.Tie as tie
+
+new-requires : tie.Need-new-requires
+new-requires c κs = search needs
+
+word-requires : tie.Need-word-requires
+word-requires c κs = search needs
+
+words-requires : tie.Need-words-requires
+words-requires c κs = search needs
+
+returns : tie.Need-returns
+returns c =
+    rw (c .words .ensures, c .before .word .ensures, c .before .before .new .ensures)
+    (sym (continued _ _ _))
+
+pub of-state-spec : {M : Type 1} → statement M
+of-state-spec = tie.close (tie.spec new-requires word-requires words-requires returns)

@@ -1,0 +1,4 @@
+-- Laws of the digest, for the crates above.
+pub mod Fnv
+pub mod Words
+pub mod Statements

@@ -1,0 +1,29 @@
+-- The statements of specs/Statements.antt, proved.
+use Prim.Native.Nat.{ℕ}
+use mathlib.Core.Path.{refl, sym, ap, _∙_}
+use lib.Dec.{lit<}
+use Rattle.digest.specs.Fnv.{START}
+use Rattle.digest.specs.Statements.{Fnv1a, WordBytes, Determined}
+use Rattle.digest.proofs.Fnv.{low-byte, below, continued}
+use Rattle.digest.proofs.Words.{four-each, all-bytes, read-back}
+
+pub fnv1a : Fnv1a
+fnv1a =
+    record {
+      lowByte = low-byte;
+      below = λ list. below START list (lit< tt);
+      continued = continued;
+    }
+
+pub wordBytes : WordBytes
+wordBytes =
+    record {
+      four = four-each;
+      bytes = all-bytes;
+      readBack = read-back;
+      minusOne = refl;
+    }
+
+pub determined : Determined
+determined =
+    record { answer = λ one other number p q. ap (λ (n : ℕ). record { value = n }) (p ∙ sym q) }

@@ -1,0 +1,68 @@
+-- The statements of specs/Statements.antt, proved.
+use Prim.Native.Nat.{ℕ, _+_, _<_, _≤_}
+use native.Mathlib.Omega.{arith}
+use native.Mathlib.Nat.{le-of-lt}
+use mathlib.Core.Path.{_≡_, refl, sym, ap, _∙_}
+use mathlib.Core.Bool.{false}
+use lib.IntN.{ℤ, pos, negsuc, natAbs}
+use lib.Signed.{natAbs-le}
+use lib.Dec.{le→leb, lt→ltb}
+use lib.Ieee.{binary64, ofInt, add, sub, mul, div, le, toBits, inFloat, toSigned, isNan}
+use lib.Ieee.Back.{positive-back, negative-back}
+use mir.Syntax.{w32}
+use mir.Val.{Fits, SFits}
+use Rattle.basis.specs.Numbers.{stepLength}
+use Rattle.shown.specs.Blend.{whole, blendOf}
+use Rattle.shown.specs.Answer.{answerOf}
+use Rattle.shown.specs.Statements.{Determined, Coordinate, ShownPlace, Examples}
+use Rattle.shown.specs.declared.Shown.{Shown}
+use Rattle.shown.specs.declared.Shown.the-variants.{At, Refused}
+use Rattle.shown.proofs.Between.{most, start, rest, between, no-nan}
+
+same-answer : (a b : Shown) → answerOf a ≡ answerOf b → a ≡ b
+same-answer (At p) (At q) e = let same : p ≡ q = cc in ap At same
+same-answer (At p) (Refused n) e = cc
+same-answer (Refused n) (At q) e = cc
+same-answer (Refused n) (Refused m) e = let same : n ≡ m = cc in ap Refused same
+
+pub determined : Determined
+determined = record {
+  blend = λ p c remainder d e. d ∙ sym e;
+  shown = λ px py cx cy remainder d e. d ∙ sym e;
+  answer = same-answer;
+}
+
+unrounded : (z : ℤ) → SFits w32 z → toSigned 31 (whole z) ≡ z
+unfolding inFloat
+unrounded (pos n) h = positive-back binary64 31 n (le→leb n most (omega arith)) (h .sfits) .1
+unrounded (negsuc n) h = negative-back binary64 31 n (lt→ltb n most (omega arith)) (h .sfits) .1
+
+pub shownPlace : ShownPlace
+shownPlace = record { coordinate = coordinate; exact = unrounded; pattern = pattern }
+  where
+    -- The size of a step between two i32.
+    room : (p c : ℤ) → SFits w32 p → SFits w32 c → natAbs p + natAbs c ≤ 4294967296
+    room p c P C = omega (arith, natAbs-le p (P .sfits), natAbs-le c (C .sfits))
+
+    coordinate : (length : ℕ) (p c : ℤ) → 0 < length → Fits w32 length
+        → SFits w32 p → SFits w32 c → Coordinate length p c
+    coordinate length p c L fits P C =
+        let size : natAbs p + natAbs c ≤ most = omega (arith, room p c P C) in
+        let short : length ≤ most = omega arith in
+        record {
+          start = start length p c L short size;
+          rest = λ remainder h. rest length p c L short size remainder (omega arith);
+          between = λ remainder h. between length p c L short size remainder (le-of-lt h);
+        }
+
+    -- Every u32 is at most 214,749 lengths of 20,000.
+    pattern : (p c : ℤ) (remainder : ℕ) → SFits w32 p → SFits w32 c → Fits w32 remainder
+        → isNan (blendOf stepLength p c remainder) ≡ false
+    pattern p c remainder P C h =
+        let size : natAbs p + natAbs c ≤ 4294967296 = room p c P C in
+        no-nan stepLength p c (omega arith) (omega arith) (omega arith)
+        remainder 214749 (omega arith) (omega arith) (omega arith) (omega arith)
+
+pub examples : Examples
+unfolding blendOf ofInt add sub mul div le toBits
+examples = record { halfway = refl; outside = refl; rounded = refl; zero = refl }
