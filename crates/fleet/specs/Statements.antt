@@ -1,0 +1,1 @@
+-- What is claimed of the fleet. proofs/Statements.antt proves each record whole.

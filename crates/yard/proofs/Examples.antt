@@ -1,0 +1,13 @@
+-- Document 01's examples E to K, computed on the definitions.
+use mathlib.Core.Path.{refl}
+use Rattle.yard.specs.Ranges.{every}
+use Rattle.yard.specs.Free.{wall, share, covers, noWall, free}
+use Rattle.yard.specs.Levers.{pushOf, cut, brake, newSpeed}
+use Rattle.yard.specs.Slide.{toward, clearOn, walk, distance, slide}
+use Rattle.yard.specs.Step.{step}
+use Rattle.yard.specs.Examples.{Examples}
+
+pub examples : Examples
+unfolding every wall share covers noWall free pushOf cut brake newSpeed toward clearOn walk
+    distance slide step
+examples = record { e = refl; f = refl; g = (refl, refl); h = refl; i = refl; j = refl; k = refl }

@@ -1,0 +1,21 @@
+-- Laws of the yard, for the crates above:
+--   Cases       a test and its two cases; what `if !call(..)` says
+--   Signed      signed words: what is small, what is read back
+--   Every       a test of every number below a bound
+--   World9      rule 9's tests, as the facts that functions over a world require
+--   Squares     free, by covered cells and by unit squares
+--   Limits      the table's bound 12, speeds within 200
+--   Walk        the move along one axis, for any `free`
+--   Soundness   the state rule as facts; a step keeps it, for any `free`
+--   Examples    document 01's examples E to K
+--   Statements  the statements of specs/Statements.antt
+pub mod Cases
+pub mod Signed
+pub mod Every
+pub mod World9
+pub mod Squares
+pub mod Limits
+pub mod Walk
+pub mod Soundness
+pub mod Examples
+pub mod Statements

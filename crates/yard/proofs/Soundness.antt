@@ -1,0 +1,110 @@
+-- Laws of the state rule: what it says of one carrier, and that a step keeps it, for any `free`.
+use Prim.Native.Nat.{ℕ, suc, _≤_}
+use mathlib.Core.Path.{_≡_, refl, ap, fun-ext}
+use mathlib.Core.Bool.{Bool, true, _&&_}
+use native.Mathlib.Omega.{arith}
+use borrow.Author.Tests.{leb-true, le-leb}
+use lib.Dec.{leb}
+use lib.IntN.{ℤ, pos, negsuc, natAbs}
+use Rattle.basis.proofs.Tests.{never, and-both, and-left, and-right}
+use Rattle.yard.specs.declared.carrier.Carrier.{Carrier}
+use Rattle.yard.specs.declared.carrier.Held.{Held}
+use Rattle.yard.specs.declared.carrier.Held.the-variants.{Nothing, Lever}
+use Rattle.yard.specs.declared.levers.Axis.the-variants.{X, Y}
+use Rattle.yard.specs.Ranges.{minus, between}
+use Rattle.yard.specs.Levers.{newSpeed}
+use Rattle.yard.specs.Slide.{slide}
+use Rattle.yard.specs.Step.{leverAfter, LeverFits, atRest, step, sound}
+use Rattle.yard.proofs.Limits.{speed-within}
+use Rattle.yard.proofs.Walk.{slide-within, slide-x-free, slide-y-free}
+
+-- Within a bound either way, and from 0 to a bound.
+either-way : (b : ℕ) (z : ℤ) → between (negsuc b) z (pos (suc b)) ≡ true → natAbs z ≤ suc b
+unfolding between
+either-way b (pos n) e = leb-true n (suc b) e
+either-way b (negsuc n) e = let h = leb-true n b (and-left (leb n b) true e) in omega arith
+
+within-way : (b : ℕ) (z : ℤ) → natAbs z ≤ suc b → between (negsuc b) z (pos (suc b)) ≡ true
+unfolding between
+within-way b (pos n) h = le-leb n (suc b) h
+within-way b (negsuc n) h = and-both (le-leb n b (omega arith)) refl
+
+pub from-zero : (b : ℕ) (z : ℤ) → between (pos 0) z (pos b) ≡ true → natAbs z ≤ b
+unfolding between
+from-zero b (pos n) e = leb-true n b (and-right (leb 0 n) (leb n b) e)
+from-zero b (negsuc n) e = never e refl
+
+zero-to : (b n : ℕ) → n ≤ b → between (pos 0) (pos n) (pos b) ≡ true
+unfolding between
+zero-to b n h = and-both (le-leb 0 n (omega arith)) (le-leb n b h)
+
+-- The state rule, as facts.
+pub record Good (free : ℤ → ℤ → Bool) (carrier : Carrier) : Type 0 where
+  pub here : free (carrier .x) (carrier .y) ≡ true
+  pub u : natAbs (carrier .u) ≤ 200
+  pub v : natAbs (carrier .v) ≤ 200
+  pub lever : between (pos 0) (carrier .lever) (pos 9) ≡ true
+
+module _ (free : ℤ → ℤ → Bool) (carrier : Carrier) where
+  pub good-of : sound free carrier ≡ true → Good free carrier
+  unfolding sound
+  good-of e =
+      let f = free (carrier .x) (carrier .y) in
+      let u = between (minus 200) (carrier .u) (pos 200) in
+      let v = between (minus 200) (carrier .v) (pos 200) in
+      let l = between (pos 0) (carrier .lever) (pos 9) in
+      let fuv = and-left (f && u && v) l e in
+      let fu = and-left (f && u) v fuv in
+      record {
+        here = and-left f u fu;
+        u = either-way 199 (carrier .u) (and-right f u fu);
+        v = either-way 199 (carrier .v) (and-right (f && u) v fuv);
+        lever = and-right (f && u && v) l e;
+      }
+
+  pub of-good : Good free carrier → sound free carrier ≡ true
+  unfolding sound
+  of-good g =
+      let u = within-way 199 (carrier .u) (g .u) in
+      let v = within-way 199 (carrier .v) (g .v) in
+      and-both (and-both (and-both (g .here) u) v) (g .lever)
+
+-- Part 1 leaves a lever 0 to 9.
+pub lever-holds : (held : Held) (lever : ℤ) → LeverFits held → between (pos 0) lever (pos 9) ≡ true
+    → between (pos 0) (leverAfter held lever) (pos 9) ≡ true
+lever-holds Nothing lever h e = e
+lever-holds (Lever moved) lever h e = zero-to 9 moved h
+
+-- A sound carrier stays sound.
+module _ (free : ℤ → ℤ → Bool) (held : Held) (carrier : Carrier) (h : LeverFits held) where
+  good-step : Good free carrier → Good free (step free held carrier)
+  unfolding step
+  good-step g =
+      let l = natAbs (leverAfter held (carrier .lever)) in
+      let u = newSpeed X l (carrier .u) in
+      let v = newSpeed Y l (carrier .v) in
+      let x = slide free X u (carrier .x) (carrier .y) .at in
+      let there = slide-x-free free u (carrier .x) (carrier .y) (g .here) in
+      let hu = speed-within X l (carrier .u) (g .u) in
+      let hv = speed-within Y l (carrier .v) (g .v) in
+      record {
+        here = slide-y-free free v x (carrier .y) there;
+        u = omega (arith, slide-within free X u (carrier .x) (carrier .y));
+        v = omega (arith, slide-within free Y v x (carrier .y));
+        lever = lever-holds held (carrier .lever) h (g .lever);
+      }
+
+  pub step-sound : sound free carrier ≡ true → sound free (step free held carrier) ≡ true
+  step-sound e = of-good free (step free held carrier) (good-step (good-of free carrier e))
+
+-- A carrier at rest is sound where it is free.
+pub rest-sound : (free : ℤ → ℤ → Bool) (x y : ℤ) → free x y ≡ true → sound free (atRest x y) ≡ true
+rest-sound free x y h =
+    of-good free (atRest x y)
+    (record { here = h; u = omega arith; v = omega arith; lever = zero-to 9 0 (omega arith) })
+
+-- Which places are free is all that a step asks.
+pub step-same : (free other : ℤ → ℤ → Bool) → ((x y : ℤ) → free x y ≡ other x y)
+    → (held : Held) (carrier : Carrier) → step free held carrier ≡ step other held carrier
+step-same free other h held carrier =
+    ap (λ f. step f held carrier) (fun-ext (λ x. fun-ext (h x)))

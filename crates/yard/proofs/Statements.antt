@@ -1,0 +1,23 @@
+-- The statements of specs/Statements.antt, proved.
+use mathlib.Core.Path.{refl}
+use Rattle.yard.specs.Statements.{Free, Every, Table, Move, Step}
+use Rattle.yard.proofs.Every.{passes, all-pass}
+use Rattle.yard.proofs.Limits.{push-within, speed-within}
+use Rattle.yard.proofs.Squares.{reading, left, above, near, alone}
+use Rattle.yard.proofs.Walk.{walked, only}
+use Rattle.yard.proofs.Soundness.{rest-sound, step-sound, step-same}
+
+pub free : Free
+free = record { reading = reading; left = left; above = above; near = near; alone = alone }
+
+pub every : Every
+every = record { reading = λ test n. (passes test n, all-pass test n) }
+
+pub table : Table
+table = record { nine = refl; push = push-within; speed = speed-within }
+
+pub move : Move
+move = record { walked = walked; only = only }
+
+pub step : Step
+step = record { rest = rest-sound; stays = step-sound; same = step-same }

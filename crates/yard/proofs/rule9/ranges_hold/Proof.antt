@@ -1,0 +1,50 @@
+-- `ranges_hold` meets its contract: each range in turn.
+use borrow.Author.Needs.{needs}
+use Rattle.yard.specs.Rule9.{rangesHold}
+use Rattle.yard.proofs.Cases.{passed, failed}
+use Rattle.yard.proofs.rule9.ranges_hold.Statement.{statement}
+use Rattle.yard.proofs.rule9.ranges_hold.Tie as tie
+
+is-from-one-requires : tie.Need-is-from-one-requires
+is-from-one-requires c κs = search needs
+
+returns : tie.Need-returns
+unfolding rangesHold
+returns c = rw (failed (c .before .is-from-one .ensures) (c .if1 .taken))
+
+is-from-one-requires-2 : tie.Need-is-from-one-requires-2
+is-from-one-requires-2 c κs = search needs
+
+returns-2 : tie.Need-returns-2
+unfolding rangesHold
+returns-2 c =
+    let first = c .before .before in
+    rw (
+      passed (first .before .is-from-one .ensures) (first .if1 .left),
+      failed (c .before .is-from-one2 .ensures) (c .if2 .taken),
+    )
+
+is-from-one-requires-3 : tie.Need-is-from-one-requires-3
+is-from-one-requires-3 c κs = search needs
+
+returns-3 : tie.Need-returns-3
+unfolding rangesHold
+returns-3 c =
+    let second = c .before in
+    let first = second .before .before in
+    rw (
+      passed (first .before .is-from-one .ensures) (first .if1 .left),
+      passed (second .before .is-from-one2 .ensures) (second .if2 .left),
+      c .is-from-one3 .ensures,
+    )
+
+pub ranges-hold-spec : {M : Type 1} → statement M
+ranges-hold-spec =
+    tie.close
+    (tie.spec
+    is-from-one-requires
+    returns
+    is-from-one-requires-2
+    returns-2
+    is-from-one-requires-3
+    returns-3)

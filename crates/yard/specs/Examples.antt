@@ -1,0 +1,73 @@
+-- Document 01, examples E to K, each a statement. proofs/Examples.antt computes them.
+use Prim.Native.Nat.{ℕ}
+use mathlib.Core.Path.{_≡_}
+use mathlib.Core.List.{List, [], _∷_}
+use lib.IntN.{ℤ, pos}
+use Rattle.yard.specs.declared.world.Yard.{Yard}
+use Rattle.yard.specs.declared.world.Size.{Size}
+use Rattle.yard.specs.declared.carrier.Carrier.{Carrier}
+use Rattle.yard.specs.declared.carrier.Held.{Held}
+use Rattle.yard.specs.declared.carrier.Held.the-variants.{Nothing, Lever}
+use Rattle.yard.specs.declared.levers.Axis.the-variants.{X}
+use Rattle.yard.specs.Ranges.{minus}
+use Rattle.yard.specs.Levers.{newSpeed}
+use Rattle.yard.specs.Free.{free}
+use Rattle.yard.specs.Step.{step}
+
+-- 'carrier 256 by 256'
+abbrev pub box : Size
+box = record { w = 256; h = 256 }
+
+-- One step in 'the practice yard: W 4, H 3, the only wall at column 3, row 1'.
+abbrev pub practice : Held → Carrier → Carrier
+practice =
+    step
+    (free (record { w = 4; h = 3; b = 1 }) (0 ∷ 0 ∷ 0 ∷ 0 ∷ 0 ∷ 0 ∷ 0 ∷ 1 ∷ 0 ∷ 0 ∷ 0 ∷ 0 ∷ []) box)
+
+-- One step in the '3 by 3 yard, wall only at column 2, row 2'.
+abbrev pub corner : Held → Carrier → Carrier
+corner =
+    step
+    (free (record { w = 3; h = 3; b = 1 }) (0 ∷ 0 ∷ 0 ∷ 0 ∷ 0 ∷ 0 ∷ 0 ∷ 0 ∷ 1 ∷ []) box)
+
+-- A carrier at (x, y) with its speeds and its lever.
+abbrev pub at : ℕ → ℕ → ℤ → ℤ → ℕ → Carrier
+at x y u v lever = record { x = pos x; y = pos y; u = u; v = v; lever = pos lever }
+
+-- 'E: from rest, lever 1: u 12, x grows by 12.'
+abbrev pub ExampleE : Type 0
+ExampleE = practice (Lever 1) (at 0 256 (pos 0) (pos 0) 0) ≡ at 12 256 (pos 12) (pos 0) 1
+
+-- 'F: u 195, lever 1: 200.'
+abbrev pub ExampleF : Type 0
+ExampleF = practice Nothing (at 0 256 (pos 195) (pos 0) 1) ≡ at 200 256 (pos 200) (pos 0) 1
+
+-- 'G: brake on -3 gives -1, on 1 gives 0.'
+abbrev pub ExampleG : Type 0
+ExampleG = (newSpeed X 9 (minus 3) ≡ minus 1) × (newSpeed X 9 (pos 1) ≡ pos 0)
+
+-- 'H: practice yard, carrier at (500, 256), u 0, lever 1: x 512, u 12.'
+abbrev pub ExampleH : Type 0
+ExampleH = practice Nothing (at 500 256 (pos 0) (pos 0) 1) ≡ at 512 256 (pos 12) (pos 0) 1
+
+-- 'I: next step: x 512, u 0.'
+abbrev pub ExampleI : Type 0
+ExampleI = practice Nothing (at 512 256 (pos 12) (pos 0) 1) ≡ at 512 256 (pos 0) (pos 0) 1
+
+-- 'J: carrier at (5, 256), u 0, lever 5: x 0, u 0.'
+abbrev pub ExampleJ : Type 0
+ExampleJ = practice Nothing (at 5 256 (pos 0) (pos 0) 5) ≡ at 0 256 (pos 0) (pos 0) 5
+
+-- 'K: 3 by 3 yard ..; 256 by 256 carrier at rest at (256, 256), lever 2: (264, 256), u 8, v 0.'
+abbrev pub ExampleK : Type 0
+ExampleK = corner Nothing (at 256 256 (pos 0) (pos 0) 2) ≡ at 264 256 (pos 8) (pos 0) 2
+
+-- All of them, by letter.
+pub record Examples : Type 0 where
+  pub e : ExampleE
+  pub f : ExampleF
+  pub g : ExampleG
+  pub h : ExampleH
+  pub i : ExampleI
+  pub j : ExampleJ
+  pub k : ExampleK

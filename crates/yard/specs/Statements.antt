@@ -1,0 +1,89 @@
+-- What is claimed of the yard. proofs/Statements.antt proves each record whole.
+use Prim.Native.Nat.{ℕ, _+_, _*_, _/_, _≤_, _<_}
+use mathlib.Core.Path.{_≡_}
+use mathlib.Core.Logic.{_↔_}
+use mathlib.Core.Bool.{Bool, true, false}
+use mathlib.Core.List.{List}
+use lib.IntN.{ℤ, pos, negsuc, natAbs}
+use lib.ListN.{length}
+use Rattle.yard.specs.declared.world.Yard.{Yard}
+use Rattle.yard.specs.declared.world.Size.{Size}
+use Rattle.yard.specs.declared.levers.Axis.{Axis}
+use Rattle.yard.specs.declared.carrier.Carrier.{Carrier}
+use Rattle.yard.specs.declared.carrier.Held.{Held}
+use Rattle.yard.specs.Ranges.{every}
+use Rattle.yard.specs.World.{CellsFit}
+use Rattle.yard.specs.Free.{wall, free}
+use Rattle.yard.specs.Levers.{on, pushes, pushOf, newSpeed}
+use Rattle.yard.specs.Slide.{clearOn, distance}
+use Rattle.yard.specs.Step.{LeverFits, atRest, step, sound}
+
+-- The box at (x, y) ends in the yard, and no unit square of it lies in a wall cell.
+pub record Clear (yard : Yard) (cells : List ℕ) (size : Size) (x y : ℕ) : Type 0 where
+  pub right : x + size .w ≤ 256 * yard .w
+  pub bottom : y + size .h ≤ 256 * yard .h
+  pub squares : (p q : ℕ) → x ≤ p → p < x + size .w → y ≤ q → q < y + size .h
+      → wall yard cells (p / 256) (q / 256) ≡ false
+
+-- 'The yard and its carriers': what free means.
+pub record Free : Type 0 where
+  -- Where x and y are at least 0: in the yard, touching allowed, no unit square in a wall cell.
+  pub reading : (yard : Yard) (cells : List ℕ) (size : Size) (x y : ℕ)
+      → (free yard cells size (pos x) (pos y) ≡ true) ↔ Clear yard cells size x y
+  -- Left of the yard nothing is free.
+  pub left : (yard : Yard) (cells : List ℕ) (size : Size) (x : ℕ) (y : ℤ)
+      → free yard cells size (negsuc x) y ≡ false
+  -- Above the yard nothing is free.
+  pub above : (yard : Yard) (cells : List ℕ) (size : Size) (x : ℤ) (y : ℕ)
+      → free yard cells size x (negsuc y) ≡ false
+  -- A place that is free is at most 16,384 units from 0, so no sum on it wraps.
+  pub near : (yard : Yard) (cells : List ℕ) (size : Size) (x y : ℤ) → CellsFit yard cells
+      → free yard cells size x y ≡ true → (natAbs x ≤ 16384) × (natAbs y ≤ 16384)
+  -- The number of carriers plays no part.
+  pub alone : (a b : Yard) (cells : List ℕ) (size : Size) (x y : ℤ) → a .w ≡ b .w → a .h ≡ b .h
+      → free a cells size x y ≡ free b cells size x y
+
+-- How a test of every number below n reads, in rule 9 and in `noWall`.
+pub record Every : Type 0 where
+  pub reading : (test : ℕ → Bool) (n : ℕ)
+      → (every n test ≡ true) ↔ ((k : ℕ) → k < n → test k ≡ true)
+
+-- 'Levers': the table, and speeds.
+pub record Table : Type 0 where
+  -- 'one pair of pushes for each position', 0 to 8.
+  pub nine : length pushes ≡ 9
+  -- No push is above 12 either way, by one test over the table.
+  pub push : (axis : Axis) (lever : ℕ)
+      → natAbs (on axis (pushOf lever .x) (pushOf lever .y)) ≤ 12
+  -- A new speed is within 200 either way where the old one is.
+  pub speed : (axis : Axis) (lever : ℕ) (old : ℤ) → natAbs old ≤ 200
+      → natAbs (newSpeed axis lever old) ≤ 200
+
+-- Parts 3 and 4 of 'One step': so many units are moved, whatever places are free.
+pub record Walked (free : ℤ → ℤ → Bool) (axis : Axis) (speed x y : ℤ) (units : ℕ) : Type 0 where
+  -- 'up to |u| units'
+  pub most : units ≤ natAbs speed
+  -- Every place moved to is free.
+  pub passed : (k : ℕ) → 0 < k → k ≤ units → clearOn free axis speed x y k ≡ true
+  -- 'stopping before the first place that isn't free'
+  pub stopped : units < natAbs speed → clearOn free axis speed x y (units + 1) ≡ false
+
+pub record Move : Type 0 where
+  -- The distance is so.
+  pub walked : (free : ℤ → ℤ → Bool) (axis : Axis) (speed x y : ℤ)
+      → Walked free axis speed x y (distance free axis speed x y)
+  -- No other number is.
+  pub only : (free : ℤ → ℤ → Bool) (axis : Axis) (speed x y : ℤ) (units : ℕ)
+      → Walked free axis speed x y units → units ≡ distance free axis speed x y
+
+-- 'One step' of one carrier, whatever places are free.
+pub record Step : Type 0 where
+  -- A carrier at rest where it is free is sound.
+  pub rest : (free : ℤ → ℤ → Bool) (x y : ℤ) → free x y ≡ true
+      → sound free (atRest x y) ≡ true
+  -- A sound carrier stays sound: free, speeds within 200 either way, lever 0 to 9.
+  pub stays : (free : ℤ → ℤ → Bool) (held : Held) (carrier : Carrier) → LeverFits held
+      → sound free carrier ≡ true → sound free (step free held carrier) ≡ true
+  -- Which places are free is all that a step asks of the yard.
+  pub same : (free other : ℤ → ℤ → Bool) → ((x y : ℤ) → free x y ≡ other x y)
+      → (held : Held) (carrier : Carrier) → step free held carrier ≡ step other held carrier

@@ -1,0 +1,22 @@
+// The yard of document 01: rule 9 of a world, where a carrier is free, and one carrier's step.
+// `free` in a contract is `free yard cells size`; the crates above say whose.
+mod carrier;
+mod levers;
+mod place;
+mod rule9;
+mod slide;
+mod words;
+mod world;
+
+pub use carrier::Carrier;
+pub use carrier::Held;
+pub use carrier::is_sound;
+pub use carrier::step;
+pub use place::is_free;
+pub use rule9::cells_hold;
+pub use rule9::ranges_hold;
+pub use rule9::sizes_hold;
+pub use rule9::starts_hold;
+pub use world::Size;
+pub use world::Yard;
+pub use world::word_of;
