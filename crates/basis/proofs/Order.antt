@@ -3,7 +3,7 @@ use Prim.Native.Nat.{ℕ}
 use mathlib.Core.Path.{_≡_, refl, sym, ap, _∙_, subst}
 use mathlib.Core.Logic.{_↔_}
 use mathlib.Core.Bool.{Bool, true, false}
-use Rattle.basis.specs.Order.{Answer, refused, accepted, Order, check, give, answer, isAccepted}
+use Rattle.basis.specs.Order.{Answer, refused, accepted, Order, check, give, answer, andThen, isAccepted}
 use Rattle.basis.specs.Order.{First, here, later, Passed, end, after}
 use Rattle.basis.proofs.Tests.{never}
 
@@ -68,3 +68,29 @@ module _ {A : Type 0} where
 
   pub exactly-result : (order : Order A) (a : A) → (answer order ≡ accepted a) ↔ Passed a order
   exactly-result order a = (passed-of order a, of-passed)
+
+-- An order that goes on answers as its first part does, or as what follows.
+module _ {A B : Type 0} where
+  onward : Answer A → (A → Order B) → Answer B
+  onward (refused number) next = refused number
+  onward (accepted a) next = answer (next a)
+
+  then-answer : (order : Order A) (next : A → Order B)
+      → answer (andThen order next) ≡ onward (answer order) next
+  unfolding answer andThen onward
+  then-answer (check true number rest) next = then-answer rest next
+  then-answer (check false number rest) next = refl
+  then-answer (give a) next = refl
+
+  module _ (order : Order A) (next : A → Order B) where
+    -- Where the first part refuses, so does the whole.
+    pub stops : {number : ℕ} → answer order ≡ refused number
+        → answer (andThen order next) ≡ refused number
+    unfolding onward
+    stops e = then-answer order next ∙ ap (λ first. onward first next) e
+
+    -- Where it gives something, the second part decides.
+    pub goes-on : {a : A} → answer order ≡ accepted a
+        → answer (andThen order next) ≡ answer (next a)
+    unfolding onward
+    goes-on e = then-answer order next ∙ ap (λ first. onward first next) e

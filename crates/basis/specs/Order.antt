@@ -32,3 +32,8 @@ pub data Passed {A : Type 0} (a : A) : Order A → Type 0 where
 abbrev pub isAccepted : {A : Type 0} → Answer A → Bool
 isAccepted (accepted a) = true
 isAccepted (refused number) = false
+
+-- An order that goes on: the tests of the first; where none fails, those made of what it gives.
+unfoldable pub andThen : {A B : Type 0} → Order A → (A → Order B) → Order B
+andThen (check test number rest) next = check test number (andThen rest next)
+andThen (give a) next = next a

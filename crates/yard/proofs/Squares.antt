@@ -1,5 +1,5 @@
 -- Laws of `free`: the covered cells decide, and they are those of the box's unit squares.
-use Prim.Native.Nat.{ℕ, _+_, _-_, _*_, _/_, _<_, _≤_, max, min}
+use Prim.Native.Nat.{ℕ, _+_, _*_, _/_, _<_, _≤_, max, min}
 use mathlib.Core.Path.{_≡_, refl, _∙_}
 use mathlib.Core.Bool.{true, false, _&&_}
 use mathlib.Core.List.{List}

@@ -3,7 +3,6 @@ use Prim.Native.Nat.{ℕ}
 use mathlib.Core.Path.{_≡_}
 use mathlib.Core.List.{List, [], _∷_}
 use lib.IntN.{ℤ, pos}
-use Rattle.yard.specs.declared.world.Yard.{Yard}
 use Rattle.yard.specs.declared.world.Size.{Size}
 use Rattle.yard.specs.declared.carrier.Carrier.{Carrier}
 use Rattle.yard.specs.declared.carrier.Held.{Held}
@@ -18,17 +17,27 @@ use Rattle.yard.specs.Step.{step}
 abbrev pub box : Size
 box = record { w = 256; h = 256 }
 
--- One step in 'the practice yard: W 4, H 3, the only wall at column 3, row 1'.
-abbrev pub practice : Held → Carrier → Carrier
-practice =
-    step
-    (free (record { w = 4; h = 3; b = 1 }) (0 ∷ 0 ∷ 0 ∷ 0 ∷ 0 ∷ 0 ∷ 0 ∷ 1 ∷ 0 ∷ 0 ∷ 0 ∷ 0 ∷ []) box)
+-- 'the practice yard: W 4, H 3, the only wall at column 3, row 1', row by row.
+abbrev pub practiceCells : List ℕ
+practiceCells =
+    0 ∷ 0 ∷ 0 ∷ 0
+    ∷ 0 ∷ 0 ∷ 0 ∷ 1
+    ∷ 0 ∷ 0 ∷ 0 ∷ 0 ∷ []
 
--- One step in the '3 by 3 yard, wall only at column 2, row 2'.
+-- One step in the practice yard.
+abbrev pub practice : Held → Carrier → Carrier
+practice = step (free (record { w = 4; h = 3; b = 1 }) practiceCells box)
+
+-- '3 by 3 yard, wall only at column 2, row 2', row by row.
+abbrev pub cornerCells : List ℕ
+cornerCells =
+    0 ∷ 0 ∷ 0
+    ∷ 0 ∷ 0 ∷ 0
+    ∷ 0 ∷ 0 ∷ 1 ∷ []
+
+-- One step in the yard of K.
 abbrev pub corner : Held → Carrier → Carrier
-corner =
-    step
-    (free (record { w = 3; h = 3; b = 1 }) (0 ∷ 0 ∷ 0 ∷ 0 ∷ 0 ∷ 0 ∷ 0 ∷ 0 ∷ 1 ∷ []) box)
+corner = step (free (record { w = 3; h = 3; b = 1 }) cornerCells box)
 
 -- A carrier at (x, y) with its speeds and its lever.
 abbrev pub at : ℕ → ℕ → ℤ → ℤ → ℕ → Carrier

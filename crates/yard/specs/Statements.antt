@@ -20,8 +20,11 @@ use Rattle.yard.specs.Step.{LeverFits, atRest, step, sound}
 
 -- The box at (x, y) ends in the yard, and no unit square of it lies in a wall cell.
 pub record Clear (yard : Yard) (cells : List ℕ) (size : Size) (x y : ℕ) : Type 0 where
+  -- 'x+w is at most 256·W'
   pub right : x + size .w ≤ 256 * yard .w
+  -- 'y+h at most 256·H'
   pub bottom : y + size .h ≤ 256 * yard .h
+  -- The cell of each unit square (p, q) of the box is no wall.
   pub squares : (p q : ℕ) → x ≤ p → p < x + size .w → y ≤ q → q < y + size .h
       → wall yard cells (p / 256) (q / 256) ≡ false
 
@@ -45,6 +48,7 @@ pub record Free : Type 0 where
 
 -- How a test of every number below n reads, in rule 9 and in `noWall`.
 pub record Every : Type 0 where
+  -- It passes if and only if each number passes.
   pub reading : (test : ℕ → Bool) (n : ℕ)
       → (every n test ≡ true) ↔ ((k : ℕ) → k < n → test k ≡ true)
 
@@ -68,11 +72,12 @@ pub record Walked (free : ℤ → ℤ → Bool) (axis : Axis) (speed x y : ℤ) 
   -- 'stopping before the first place that isn't free'
   pub stopped : units < natAbs speed → clearOn free axis speed x y (units + 1) ≡ false
 
+-- Parts 3 and 4 of 'One step': the definition is that and nothing else.
 pub record Move : Type 0 where
-  -- The distance is so.
+  -- The distance is walked so.
   pub walked : (free : ℤ → ℤ → Bool) (axis : Axis) (speed x y : ℤ)
       → Walked free axis speed x y (distance free axis speed x y)
-  -- No other number is.
+  -- No other number of units is.
   pub only : (free : ℤ → ℤ → Bool) (axis : Axis) (speed x y : ℤ) (units : ℕ)
       → Walked free axis speed x y units → units ≡ distance free axis speed x y
 

@@ -1,5 +1,5 @@
-// The yard of document 01: rule 9 of a world, where a carrier is free, and one carrier's step.
-// `free` in a contract is `free yard cells size`; the crates above say whose.
+// The yard of document 01: rule 9, where a carrier is free, one carrier's step and its state rule.
+// Callers test ranges and lengths first, in document 01's order: the `requires` rest on that.
 mod carrier;
 mod levers;
 mod place;

@@ -18,10 +18,10 @@ pub struct Block {
     pub bottom: usize,
 }
 
-// What a search of a block meets first: nothing, or the wall at a column and a row.
+// What a search of a block meets first.
 pub enum Met {
     Nothing,
-    Wall(usize, usize),
+    Wall { column: usize, row: usize },
 }
 
 // The index of the first wall among the cells from..to, or to.
@@ -60,7 +60,10 @@ fn wall_in(yard: Yard, cells: &[u8], block: Block) -> Met
         let start = row_start(yard, row);
         let i = first_wall(cells, start + left, start + right);
         if i < start + right {
-            return Met::Wall(i - start, row);
+            return Met::Wall {
+                column: i - start,
+                row,
+            };
         }
     }
     Met::Nothing
@@ -97,7 +100,7 @@ fn free_at(yard: Yard, cells: &[u8], size: Size, x: usize, y: usize) -> bool
     }
     match wall_in(yard, cells, block_of(size, x, y)) {
         Met::Nothing => true,
-        Met::Wall(_, _) => false,
+        Met::Wall { column: _, row: _ } => false,
     }
 }
 

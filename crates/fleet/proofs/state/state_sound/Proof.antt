@@ -10,7 +10,7 @@ use denote.Ref.{now}
 use borrow.Author.Count.{below-none, below-more}
 use borrow.Author.Needs.{needs}
 use Rattle.fleet.specs.State.{carrier, freeFor, soundState, worldOf}
-use Rattle.yard.proofs.World9.{sizes-fit}
+use Rattle.yard.proofs.Fits.{sizes-fit}
 use Rattle.yard.proofs.Every.{all-pass, one-fails}
 use Rattle.yard.proofs.Cases.{passed, failed}
 use Rattle.yard.specs.Step.{sound}

@@ -1,7 +1,5 @@
 -- `brake_speed` meets its contract: half of a word is a word.
 use native.Mathlib.Omega.{arith}
-use mir.Syntax.{w32}
-use mir.Val.{SFits}
 use mir.Facts.{toZ-ofZ}
 use Rattle.yard.specs.Levers.{brake}
 use Rattle.yard.proofs.Limits.{half-fits}

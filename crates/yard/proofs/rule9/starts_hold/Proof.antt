@@ -8,7 +8,7 @@ use borrow.Author.Needs.{needs}
 use Rattle.yard.specs.Rule9.{startHolds, startsHold}
 use Rattle.yard.proofs.Cases.{passed, failed}
 use Rattle.yard.proofs.Every.{all-pass, one-fails}
-use Rattle.yard.proofs.World9.{sizes-fit}
+use Rattle.yard.proofs.Fits.{sizes-fit}
 use Rattle.yard.proofs.rule9.starts_hold.Statement.{statement}
 use Rattle.yard.proofs.rule9.starts_hold.Tie as tie
 

@@ -1,0 +1,3 @@
+-- Laws of a session: the ways through its tests, what a sound one says, and what its calls leave.
+pub mod Room
+pub mod Good

@@ -1,0 +1,44 @@
+// A session: opening, reading, delivery, replay, digest and shown place, over lent words and bytes.
+//   sound    document 01's *Sound*, of any session and any buffers
+//   open     opening
+//   reading  a clock reading
+//   deliver  a delivery, and going back
+//   replay   a log replayed from the start
+//   show     the digest, and the shown place of a carrier
+
+mod sound;
+
+use clock::Clock;
+use yard::Yard;
+
+// What is handed from call to call beside the lent buffers.
+pub struct Session {
+    pub yard: Yard,
+    pub clock: Clock,
+    pub held: usize,
+}
+
+// What opening and a reading answer: the session, or a refusal by its number.
+pub enum Running {
+    Open(Session),
+    Refused(u8),
+}
+
+// What a delivery answers.
+pub enum Delivered {
+    Taken(Session),
+    Held(Session),
+    Refused(u8),
+}
+
+// What replay answers.
+pub enum Replayed {
+    Done,
+    Refused(u8),
+}
+
+// What the digest answers.
+pub enum Digested {
+    Value(u32),
+    Refused(u8),
+}
