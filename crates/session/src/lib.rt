@@ -6,6 +6,7 @@
 //   replay   a log replayed from the start
 //   show     the digest, and the shown place of a carrier
 
+mod reading;
 mod sound;
 
 use clock::Clock;
