@@ -2,3 +2,4 @@
 pub mod Room
 pub mod Good
 pub mod Readings
+pub mod Deliveries

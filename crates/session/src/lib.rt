@@ -6,6 +6,7 @@
 //   replay   a log replayed from the start
 //   show     the digest, and the shown place of a carrier
 
+mod deliver;
 mod reading;
 mod sound;
 
