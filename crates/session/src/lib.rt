@@ -3,10 +3,14 @@
 //   open     opening
 //   reading  a clock reading
 //   deliver  a delivery, and going back
-//   replay   a log replayed from the start
+//   replays  a log replayed from the start
 //   show     the digest, and the shown place of a carrier
 
+mod open;
+mod replays;
 mod sound;
+
+pub use replays::replay;
 
 use clock::Clock;
 use yard::Yard;
