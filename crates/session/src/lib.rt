@@ -10,9 +10,8 @@ mod open;
 mod replays;
 mod sound;
 
-pub use replays::replay;
-
 use clock::Clock;
+pub use replays::replay;
 use yard::Yard;
 
 // What is handed from call to call beside the lent buffers.
