@@ -1,4 +1,4 @@
--- The start of a world that rule 9 lets pass is a sound state, and a log that rule 13 lets pass fits a run.
+-- Opening and replay: a world that passes rule 9 starts sound, and a log that passes rule 13 fits.
 use Prim.Native.Nat.{ℕ, zero, suc, _+_, _*_, _/_, _<_, _≤_}
 use mathlib.Core.Path.{_≡_, refl, sym, ap, _∙_}
 use mathlib.Core.List.{List, _++_}
@@ -12,6 +12,7 @@ use lib.Seq.{getD-append-add}
 use Rattle.record.specs.Log.{soundLog}
 use Rattle.record.proofs.Logs.{sound}
 use Rattle.yard.specs.declared.world.Yard.{Yard}
+use Rattle.yard.specs.declared.carrier.Carrier.{Carrier}
 use Rattle.yard.specs.World.{word}
 use Rattle.yard.specs.Rule9.{startsHold}
 use Rattle.yard.specs.Step.{atRest}
@@ -22,38 +23,49 @@ use Rattle.fleet.specs.State.{World, worldOf, carrier, wordsOf, freeFor, soundS
 use Rattle.fleet.specs.Fits.{LogFits, StateFits}
 use Rattle.fleet.proofs.Words.{length-start}
 
+-- Carrier i as it starts.
+abbrev first : List ℤ → ℕ → Carrier
+first boxes i = atRest (word boxes i 0) (word boxes i 1)
+
 -- A word of the start, and those of the carrier that was put last.
 earlier-word : (boxes : List ℤ) (b j : ℕ) → j < 5 * b
     → getD (startTo boxes (suc b)) j (pos 0) ≡ getD (startTo boxes b) j (pos 0)
 unfolding startTo
 earlier-word boxes b j h =
-    List·getD-append (startTo boxes b) (wordsOf (atRest (word boxes b 0) (word boxes b 1))) (pos 0) j
+    List·getD-append (startTo boxes b) (wordsOf (first boxes b)) (pos 0) j
     (omega (arith, length-start boxes b))
 
 last-word : (boxes : List ℤ) (b k : ℕ)
     → getD (startTo boxes (suc b)) (5 * b + k) (pos 0)
-    ≡ getD (wordsOf (atRest (word boxes b 0) (word boxes b 1))) k (pos 0)
+    ≡ getD (wordsOf (first boxes b)) k (pos 0)
 unfolding startTo
 last-word boxes b k =
     rw (length-start boxes b) at
-    (getD-append-add (startTo boxes b) (wordsOf (atRest (word boxes b 0) (word boxes b 1))) k (pos 0))
+    (getD-append-add (startTo boxes b) (wordsOf (first boxes b)) k (pos 0))
 
 -- 'At the start u, v and lever are 0': each carrier at rest where the world puts it.
 pub carrier-start : (boxes : List ℤ) (b i : ℕ) → i < b
-    → carrier i (startTo boxes b) ≡ atRest (word boxes i 0) (word boxes i 1)
+    → carrier i (startTo boxes b) ≡ first boxes i
 unfolding carrier wordsOf
 carrier-start boxes zero i h = absurd (omega arith)
 carrier-start boxes (suc b) i h =
     ⊎-elim here (λ l. there l (carrier-start boxes b i l)) (eq-or-lt-of-le (le-of-suc-le-suc h))
   where
-    here : i ≡ b → carrier i (startTo boxes (suc b)) ≡ atRest (word boxes i 0) (word boxes i 1)
+    here : i ≡ b → carrier i (startTo boxes (suc b)) ≡ first boxes i
     here same =
         let x : getD (startTo boxes (suc b)) (5 * b) (pos 0) ≡ word boxes b 0 =
         rw (add-zero (5 * b)) at (last-word boxes b 0) in
-        rw (same, x, last-word boxes b 1, last-word boxes b 2, last-word boxes b 3, last-word boxes b 4)
+        rw (
+          same,
+          x,
+          last-word boxes b 1,
+          last-word boxes b 2,
+          last-word boxes b 3,
+          last-word boxes b 4,
+        )
 
-    there : i < b → carrier i (startTo boxes b) ≡ atRest (word boxes i 0) (word boxes i 1)
-        → carrier i (startTo boxes (suc b)) ≡ atRest (word boxes i 0) (word boxes i 1)
+    there : i < b → carrier i (startTo boxes b) ≡ first boxes i
+        → carrier i (startTo boxes (suc b)) ≡ first boxes i
     there l e =
         rw (
           earlier-word boxes b (5 * i) (omega arith),
@@ -65,13 +77,18 @@ carrier-start boxes (suc b) i h =
         e
 
 -- Every start is free, so the start is sound.
-pub start-fits : (yard : Yard) (cells : List ℕ) (boxes : List ℤ) → startsHold yard cells boxes ≡ true
+pub start-fits : (yard : Yard) (cells : List ℕ) (boxes : List ℤ)
+    → startsHold yard cells boxes ≡ true
     → StateFits (worldOf yard cells boxes) (startTo boxes (yard .b))
 unfolding soundState freeFor
 start-fits yard cells boxes e =
     record {
       room = length-start boxes (yard .b);
-      sound = all-pass _ _ (λ i l. rw (carrier-start boxes (yard .b) i l) (rest-sound _ _ _ (start-free yard cells boxes e i l)));
+      sound =
+          all-pass _ _
+          (λ i l.
+          rw (carrier-start boxes (yard .b) i l)
+          (rest-sound _ _ _ (start-free yard cells boxes e i l)));
     }
 
 -- A log that rule 13 lets pass, whole.

@@ -32,9 +32,12 @@ impl Session {
     ) -> Running
         ensures opened { λ r. ⌜
             left (runningOf r) (now (state .exit)) (now (rows .exit)) (now (log .exit))
-            ≡ leaves (lent (now (cells .entry)) (now (boxes .entry)) (now (state .entry)) (now (rows .entry)) (now (log .entry)))
+            ≡ leaves
+            (lent (now (cells .entry)) (now (boxes .entry))
+            (now (state .entry)) (now (rows .entry)) (now (log .entry)))
             (answer (openOrder yard reading
-            (lent (now (cells .entry)) (now (boxes .entry)) (now (state .entry)) (now (rows .entry)) (now (log .entry))))) ⌝ }
+            (lent (now (cells .entry)) (now (boxes .entry))
+            (now (state .entry)) (now (rows .entry)) (now (log .entry))))) ⌝ }
     {
         if !ranges_hold(yard) {
             return Running::Refused(Number::WORLD);
