@@ -3,3 +3,4 @@ pub mod Room
 pub mod Good
 pub mod Readings
 pub mod Deliveries
+pub mod Starts

@@ -3,14 +3,17 @@
 //   open     opening
 //   reading  a clock reading
 //   deliver  a delivery, and going back
-//   replay   a log replayed from the start
+//   replays  a log replayed from the start
 //   show     the digest, and the shown place of a carrier
 
 mod deliver;
 mod reading;
+mod open;
+mod replays;
 mod sound;
 
 use clock::Clock;
+pub use replays::replay;
 use yard::Yard;
 
 // What is handed from call to call beside the lent buffers.
