@@ -1,3 +1,4 @@
 -- Laws of a session: the ways through its tests, what a sound one says, and what its calls leave.
 pub mod Room
 pub mod Good
+pub mod Showing

@@ -6,9 +6,12 @@
 //   replay   a log replayed from the start
 //   show     the digest, and the shown place of a carrier
 
+mod show;
 mod sound;
 
 use clock::Clock;
+pub use show::digest;
+pub use show::shown;
 use yard::Yard;
 
 // What is handed from call to call beside the lent buffers.
