@@ -8,6 +8,7 @@ pub use runs::Rows;
 pub use runs::bring_back;
 pub use runs::clear_rows;
 pub use runs::copy_words;
+pub use runs::load_row;
 pub use runs::row_sound;
 pub use runs::run;
 pub use runs::run_saving;

@@ -4,3 +4,4 @@ pub mod Good
 pub mod Readings
 pub mod Deliveries
 pub mod Starts
+pub mod Showing

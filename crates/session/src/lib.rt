@@ -7,13 +7,16 @@
 //   show     the digest, and the shown place of a carrier
 
 mod deliver;
-mod reading;
 mod open;
+mod reading;
 mod replays;
+mod show;
 mod sound;
 
 use clock::Clock;
 pub use replays::replay;
+pub use show::digest;
+pub use show::shown;
 use yard::Yard;
 
 // What is handed from call to call beside the lent buffers.
