@@ -1,0 +1,23 @@
+-- Laws of the model, for the crates above.
+--   Onward      an order that goes on with what another gives
+--   Levers      the lever held at a place after a record is put in
+--   Records     the records held, as members and by the levers at their places
+--   Rows        steps made and made again: the state, and the saved rows
+--   Calls       each answer with what its tests said, and what a call leaves
+--   Kept        what every session as in demand 3 keeps
+--   History     the clock by the readings alone; a record once held stays held
+--   Swap        two records taken in either order
+--   Words       rows laid end to end
+--   Example     the example of 100 steps made
+--   Statements  the statements of specs/Statements.antt
+pub mod Onward
+pub mod Levers
+pub mod Records
+pub mod Rows
+pub mod Calls
+pub mod Kept
+pub mod History
+pub mod Swap
+pub mod Words
+pub mod Example
+pub mod Statements

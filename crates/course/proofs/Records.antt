@@ -1,0 +1,162 @@
+-- The records held, as members of a log that climbs, and the levers held at its places: each says
+-- the other.
+use Prim.Native.Nat.{ℕ, _+_, _/_, _%_, _<_, _≤_}
+use mathlib.Core.Path.{_≡_, refl, sym, _∙_}
+use mathlib.Core.Logic.{_↔_, _⊎_, inl, inr}
+use mathlib.Core.Bool.{Bool, true, false, cond, _&&_}
+use mathlib.Core.List.{List, [], _∷_, List·Memᴰ, List·Memᴰ·head, List·Memᴰ·tail}
+use mathlib.Core.List.{List·Memᴰ·cases-cons, List·Memᴰ·not-nil}
+use mathlib.Core.Option.{Option, none, some, Option·none-ne-some}
+use native.Mathlib.Omega.{arith}
+use lib.Dec.{ltb, eqb}
+use borrow.Author.Tests.{ltb-true, ltb-false, eq-eqb, ne-eqb, eqb-true}
+use Rattle.record.specs.Log.{place, placeOf}
+use Rattle.record.specs.Held.{leverAt}
+use Rattle.record.specs.declared.bytes.Record.{Record}
+use Rattle.record.proofs.OneRecord.{Within}
+use Rattle.record.proofs.Climbs.{Climbs, done, more}
+use Rattle.record.proofs.Levers.{leverBy, lever-by, lever-low}
+use Rattle.record.proofs.Logs.{AllWithin}
+use Rattle.record.proofs.Logs.{done as none-more, more as one-more}
+
+-- A member of a log: where it stands, and that its lever is found at its place.
+record Found (low : ℕ) (l : List Record) (r : Record) : Type 0 where
+  above : low ≤ placeOf r
+  byte : r .carrier < 256
+  lever : leverBy (placeOf r) l ≡ some (r .lever)
+
+found : {low : ℕ} {l : List Record} {r : Record} → Climbs low l → List·Memᴰ r l → Found low l r
+unfolding leverBy
+found done m = absurd (List·Memᴰ·not-nil m)
+found {low} {r = r} (more {r = s} {rest = rest} k p c) m = go (List·Memᴰ·cases-cons m) (found c)
+  where
+    go : (r ≡ s) ⊎ List·Memᴰ r rest → (List·Memᴰ r rest → Found (placeOf s + 1) rest r)
+        → Found low (s ∷ rest) r
+    go (inl e) f =
+        rw e (record { above = p; byte = k; lever = rw (eq-eqb (placeOf s) (placeOf s) refl) })
+    go (inr m) f =
+        let later = f m in
+        let apart : placeOf s ≡ placeOf r → ⊥ = omega (arith, later .above) in
+        record {
+          above = omega (arith, later .above);
+          byte = later .byte;
+          lever = rw (ne-eqb (placeOf s) (placeOf r) apart) (later .lever);
+        }
+
+pub held-lever : {low : ℕ} {l : List Record} {r : Record} → Climbs low l → List·Memᴰ r l
+    → leverAt (r .step) (r .carrier) l ≡ some (r .lever)
+held-lever {r = r} c m =
+    let f = found c m in lever-by (r .step) (r .carrier) c (f .byte) ∙ f .lever
+
+-- And back: what is found at a place is a member.
+pub lever-held : {t carrier lever : ℕ} (l : List Record) → leverAt t carrier l ≡ some lever
+    → List·Memᴰ (record { step = t; carrier = carrier; lever = lever }) l
+unfolding leverAt
+lever-held [] e = absurd (Option·none-ne-some _ e)
+lever-held {t} {carrier} {lever} (r ∷ rest) e =
+    go (eqb (r .step) t) refl (eqb (r .carrier) carrier) refl e (lever-held rest)
+  where
+    this : Record
+    this = record { step = t; carrier = carrier; lever = lever }
+
+    go : (x : Bool) → eqb (r .step) t ≡ x → (y : Bool) → eqb (r .carrier) carrier ≡ y
+        → cond (x && y) (some (r .lever)) (leverAt t carrier rest) ≡ some lever
+        → (leverAt t carrier rest ≡ some lever → List·Memᴰ this rest)
+        → List·Memᴰ this (r ∷ rest)
+    go true p true q e f =
+        let step : t ≡ r .step = sym (eqb-true _ _ p) in
+        let number : carrier ≡ r .carrier = sym (eqb-true _ _ q) in
+        let same : lever ≡ r .lever = cc in
+        List·Memᴰ·head (λ i. record { step = step i; carrier = number i; lever = same i })
+    go true p false q e f = List·Memᴰ·tail (f e)
+    go false p y q e f = List·Memᴰ·tail (f e)
+
+-- A member keeps the limits that all keep.
+pub within-held : {carriers : ℕ} {l : List Record} {r : Record} → AllWithin carriers l
+    → List·Memᴰ r l → Within carriers r
+within-held none-more m = absurd (List·Memᴰ·not-nil m)
+within-held {carriers} {r = r} (one-more {r = s} {rest = rest} w a) m =
+    go (List·Memᴰ·cases-cons m) (within-held a)
+  where
+    go : (r ≡ s) ⊎ List·Memᴰ r rest → (List·Memᴰ r rest → Within carriers r) → Within carriers r
+    go (inl e) f = rw e w
+    go (inr m) f = f m
+
+-- Two logs hold the same levers at step t.
+abbrev pub SameAt : ℕ → List Record → List Record → Type 0
+SameAt t l m = (carrier : ℕ) → leverAt t carrier l ≡ leverAt t carrier m
+
+-- What is held at the first place of a log, and behind it.
+first-by : (p : ℕ) (r : Record) (rest : List Record) → placeOf r ≡ p
+    → leverBy p (r ∷ rest) ≡ some (r .lever)
+unfolding leverBy
+first-by p r rest e = rw (eq-eqb (placeOf r) p e)
+
+rest-by : (p : ℕ) (r : Record) {rest : List Record} → Climbs (placeOf r + 1) rest
+    → leverBy p rest ≡ cond (eqb (placeOf r) p) none (leverBy p (r ∷ rest))
+unfolding leverBy
+rest-by p r {rest} c = go (eqb (placeOf r) p) refl
+  where
+    go : (t : Bool) → eqb (placeOf r) p ≡ t
+        → leverBy p rest ≡ cond t none (cond t (some (r .lever)) (leverBy p rest))
+    go true e = lever-low p c (omega (arith, eqb-true (placeOf r) p e))
+    go false e = refl
+
+-- A log whose levers another log holds too does not start before it.
+not-before : (r s : Record) (l m : List Record) → Climbs (placeOf s) (s ∷ m)
+    → leverBy (placeOf r) (r ∷ l) ≡ leverBy (placeOf r) (s ∷ m) → placeOf s ≤ placeOf r
+not-before r s l m c same = go (ltb (placeOf r) (placeOf s)) refl
+  where
+    go : (t : Bool) → ltb (placeOf r) (placeOf s) ≡ t → placeOf s ≤ placeOf r
+    go true e =
+        let nothing = lever-low (placeOf r) c (ltb-true (placeOf r) (placeOf s) e) in
+        absurd (Option·none-ne-some _ (sym nothing ∙ sym same ∙ first-by (placeOf r) r l refl))
+    go false e = ltb-false (placeOf r) (placeOf s) e
+
+-- Two logs with the same lever at every place, as one number, are one log.
+one-by : {low high : ℕ} {l m : List Record} → Climbs low l → Climbs high m
+    → ((p : ℕ) → leverBy p l ≡ leverBy p m) → l ≡ m
+unfolding leverBy
+one-by done done same = refl
+one-by done (more {r = s} {rest = m} k p c) same =
+    absurd (Option·none-ne-some _ (same (placeOf s) ∙ first-by (placeOf s) s m refl))
+one-by (more {r = r} {rest = l} k p c) done same =
+    absurd (Option·none-ne-some _ (sym (same (placeOf r)) ∙ first-by (placeOf r) r l refl))
+one-by (more {r = r} {rest = l} k p c) (more {r = s} {rest = m} k′ p′ c′) same =
+    let up = not-before r s l m (more k′ (omega arith) c′) (same (placeOf r)) in
+    let down = not-before s r m l (more k (omega arith) c) (sym (same (placeOf s))) in
+    let here : placeOf r ≡ placeOf s = omega arith in
+    let step : r .step ≡ s .step = omega arith in
+    let number : r .carrier ≡ s .carrier = omega arith in
+    let lever : r .lever ≡ s .lever =
+    cc (same (placeOf r), first-by (placeOf r) r l refl, first-by (placeOf r) s m (sym here)) in
+    let behind = one-by c c′ (λ q. rest-by q r c ∙ rw (same q, here) (sym (rest-by q s c′))) in
+    λ i. record { step = step i; carrier = number i; lever = lever i } ∷ behind i
+
+module _ {low high : ℕ} {l m : List Record} (c : Climbs low l) (d : Climbs high m) where
+  -- The levers held decide the log.
+  pub one-log : ((t : ℕ) → SameAt t l m) → l ≡ m
+  one-log same = one-by c d by
+    where
+      by : (p : ℕ) → leverBy p l ≡ leverBy p m
+      by p =
+          let here : place (p / 256) (p % 256) ≡ p = omega arith in
+          let byte : p % 256 < 256 = omega arith in
+          rw here at
+          (sym (lever-by (p / 256) (p % 256) c byte)
+          ∙ same (p / 256) (p % 256)
+          ∙ lever-by (p / 256) (p % 256) d byte)
+
+  -- Logs that hold the same records for a step hold the same levers at it.
+  pub same-at : (t : ℕ) → ((r : Record) → r .step ≡ t → List·Memᴰ r l ↔ List·Memᴰ r m)
+      → SameAt t l m
+  same-at t same carrier = go (leverAt t carrier l) (leverAt t carrier m) refl refl
+    where
+      go : (x y : Option ℕ) → leverAt t carrier l ≡ x → leverAt t carrier m ≡ y → x ≡ y
+      go none none p q = refl
+      go (some lever) y p q = sym (held-lever d (same _ refl .0 (lever-held l p))) ∙ q
+      go none (some lever) p q = sym p ∙ held-lever c (same _ refl .1 (lever-held m q))
+
+  -- So the records held decide the log.
+  pub same-log : ((r : Record) → List·Memᴰ r l ↔ List·Memᴰ r m) → l ≡ m
+  same-log same = one-log (λ t. same-at t (λ r e. same r))

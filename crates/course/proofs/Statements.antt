@@ -1,0 +1,163 @@
+-- The statements of specs/Statements.antt, proved.
+use Prim.Native.Nat.{ℕ, _+_, _<_, _≤_}
+use mathlib.Core.Path.{_≡_, sym, ap, subst, _∙_}
+use mathlib.Core.Logic.{_↔_}
+use mathlib.Core.List.{List}
+use native.Mathlib.Omega.{arith}
+use Rattle.basis.specs.Order.{accepted}
+use Rattle.record.specs.Bytes.{recordOf}
+use Rattle.record.specs.declared.bytes.Record.{Record}
+use Rattle.record.proofs.OneRecord.{within-limits}
+use Rattle.record.proofs.Climbs.{ascends}
+use Rattle.record.proofs.Logs.{recordsOf-log, log-sound}
+use Rattle.clock.proofs.Sound.{is-sound}
+use Rattle.clock.proofs.Statements.{anyLength}
+use Rattle.course.specs.World.{World, Lawful, rowCount}
+use Rattle.course.specs.Session.{Session, opening, rowOf}
+use Rattle.course.specs.Calls.{Call, delivery, taken, answerTo, run, Holds}
+use Rattle.course.specs.Statements.{Demand2, Replay, FromHistory, Same, Demand3, Reach}
+use Rattle.course.specs.Statements.{AtPlace, ExactlyWhen, Course}
+use Rattle.course.proofs.Levers.{earlier-lever}
+use Rattle.course.proofs.Records.{same-at, same-log, held-lever, lever-held, within-held}
+use Rattle.course.proofs.Rows.{after-agree, length-rows, row-saved, row-blank}
+use Rattle.course.proofs.Calls.{answerAt, exactly-held, exactly-other, exactly-late}
+use Rattle.course.proofs.Calls.{exactly-full, exactly-taken, leaves, is-unread, is-read}
+use Rattle.course.proofs.Calls.{is-malformed, is-placed, took-says}
+use Rattle.course.proofs.Kept.{Kept, kept, good-after, row-good, no-fault, take-row}
+use Rattle.course.proofs.History.{clock-is, held-again}
+use Rattle.course.proofs.Swap.{places-differ, swap}
+use Rattle.course.proofs.Words.{flat-length, flat-row, flat-saved, flat-back}
+use Rattle.course.proofs.Words.{flatten-replicate, fits-after}
+
+module _ {world : World} (law : Lawful world) where
+  demand2 : {s : Session world} → Kept s → Demand2 s
+  demand2 {s} k =
+      let n = s .clock .steps in
+      record {
+        state = ap (λ made. made .state) (k .made);
+        rows = ap (λ made. made .rows) (k .made);
+        many = rw (k .made) (length-rows world n (s .log));
+        saved = λ t h j. rw (k .made) (row-saved world n t (s .log) h j);
+        unused = λ i h j. rw (k .made) (row-blank world n i (s .log) h j);
+        good = rw (k .made) (good-after law n (k .within));
+        ascends = ascends (k .climbs);
+        few = k .few;
+        limits = λ r held. within-limits (world .carriers) r (within-held (k .within) held);
+        clock = is-sound (k .clock);
+        steps = k .clock .steps;
+        noFault = no-fault law k;
+      }
+
+  replay : {s : Session world} → Kept s → Replay s
+  replay k =
+      record {
+        sound = log-sound (k .within) (ascends (k .climbs)) (k .few);
+        state = rw (recordsOf-log (k .within)) (sym (demand2 k .state));
+      }
+
+  from-history : (first : ℕ) (calls : List Call) → FromHistory world first calls
+  from-history first calls =
+      let clock = clock-is (opening world first) calls in
+      record {
+        clock = clock;
+        time = rw clock (anyLength .opening (world .length) first _ (law .positive));
+      }
+
+  converge : (s u : Session world) → Kept s → Kept u → s .clock .steps ≡ u .clock .steps
+      → ((r : Record) → Holds s r ↔ Holds u r) → Same s u
+  converge s u k j steps same =
+      let log = same-log (k .climbs) (j .climbs) same in
+      let made : s .made ≡ u .made = k .made ∙ rw (steps, log) (sym (j .made)) in
+      record {
+        state = ap (λ m. m .state) made;
+        rows = ap (λ m. m .rows) made;
+        log = log;
+        demand2 = demand2 k;
+      }
+
+  demand3 : Demand3 world
+  demand3 =
+      record {
+        converge = λ s u p q. converge s u (kept law p) (kept law q);
+        again = λ s new bytes between e.
+            let held = held-again s new bytes between e in
+            (held, leaves (run new between) (delivery bytes) held);
+        swap = λ s t u a b p. swap law s t u a b (kept law p);
+        apart = places-differ;
+        grouping = λ first calls others a b c d e.
+            rw (clock-is (opening world first) calls, clock-is (opening world first) others)
+            (anyLength .grouping (world .length) first _ _ (law .positive) a b c d e);
+      }
+
+  reach-rows : (s new : Session world) (bytes : List ℕ) → Kept s
+      → answerTo s (delivery bytes) ≡ accepted (taken new)
+      → (t : ℕ) → t ≤ recordOf bytes .step → t < s .clock .steps → s .clock .steps ≤ t + rowCount
+      → rowOf t (new .made) ≡ rowOf t (s .made)
+  reach-rows s new bytes k e t h made saved =
+      let took = took-says s bytes e in
+      let before : t ≤ took .this .step = rw (took .here) h in
+      subst (λ u. rowOf t (u .made) ≡ rowOf t (s .made)) (took .leaves)
+      (take-row law k (took .limits) (took .takes) t before made saved)
+
+  reach : Reach world
+  reach =
+      record {
+        state = λ s u p q n same.
+            let below = same-at (kept law p .climbs) (kept law q .climbs) in
+            after-agree world n (record { below = λ t h. below t (λ r e. same r (omega arith)) });
+        rows = λ s new bytes p. reach-rows s new bytes (kept law p);
+        later = λ n log.
+            after-agree world n
+            (record { below = λ t h carrier. earlier-lever t carrier n log h });
+      }
+
+  at-place : {s : Session world} → Kept s → (r : Record) → AtPlace s r (answerAt s r)
+  at-place {s} k r =
+      let exactly = exactly-held s r in
+      record {
+        same = (
+          λ e. lever-held (s .log) (exactly .0 e),
+          λ held. exactly .1 (held-lever (k .climbs) held),
+        );
+        conflict = exactly-other s r;
+        late = exactly-late s r;
+        full = exactly-full s r;
+        takes = λ new.
+            let exactly = exactly-taken s r new in (
+              λ e. let w = exactly .0 e in (w .0 .free, w .0 .timely, w .0 .room, w .1),
+              λ w.
+                  let row = row-good law r k (w .1) in
+                  exactly .1 (record { free = w .0; timely = w .1; room = w .2; row = row }, w .3),
+            );
+      }
+
+  exactly-when : {s : Session world} → Kept s → ExactlyWhen s
+  exactly-when {s} k =
+      record {
+        unread = λ t number. is-unread s t;
+        reads = λ t given. is-read s t;
+        malformed = λ bytes number. is-malformed s bytes;
+        atPlace = λ bytes r e. rw (is-placed s bytes e) (at-place k r);
+        refusal = λ call number. leaves s call;
+      }
+
+pub course : Course
+course =
+    record {
+      demand2 = λ world law s p. demand2 law (kept law p);
+      replay = λ world law s p. replay law (kept law p);
+      demand3 = λ world law. demand3 law;
+      fromHistory = λ world law. from-history law;
+      reach = λ world law. reach law;
+      exactlyWhen = λ world law s p. exactly-when law (kept law p);
+      fits = λ words law sized s p.
+          rw (kept law p .made) (fits-after sized (s .clock .steps) (s .log));
+      flatRows = λ words made fits.
+          record {
+            long = flat-length fits;
+            row = flat-row fits;
+            saved = flat-saved fits;
+            back = flat-back fits;
+          };
+      opened = λ words first. flatten-replicate (words .width) rowCount (words .zero);
+    }
