@@ -2,10 +2,14 @@
 use Prim.Native.Nat.{ℕ, zero, suc, _+_, _-_, _<_, _≤_}
 use mathlib.Core.Path.{_≡_, refl, sym, ap, _∙_}
 use mathlib.Core.List.{List, [], _∷_, _++_, append-nil}
-use native.Mathlib.Nat.{le-of-eq, le-of-suc-le-suc, not-suc-le-zero, zero-add, suc-add, sub-zero, zero-sub, suc-sub-suc}
-use lib.ListN.{length, take, drop, replicate, getD, set, length-append, length-drop, drop-of-length-le, List·getD-append}
+use native.Mathlib.Nat.{le-of-eq, le-of-suc-le-suc, not-suc-le-zero, zero-add, suc-add, sub-zero}
+use native.Mathlib.Nat.{zero-sub, suc-sub-suc}
+use lib.ListN.{length, take, drop, replicate, getD, set, length-append, length-drop}
+use lib.ListN.{drop-of-length-le, List·getD-append}
 use native.Mathlib.Numerals.{add-one}
-use lib.Seq.{drop-length, length-take-le, take-nil, take-all, getD-take, getD-drop, paste, paste-zero, paste-suc, drop-paste, append-snoc, getD-append-seam, getD-append-add, length-paste-head}
+use lib.Seq.{drop-length, length-take-le, take-nil, take-all, getD-take, getD-drop, paste}
+use lib.Seq.{paste-zero, paste-suc, drop-paste, append-snoc, getD-append-seam, getD-append-add}
+use lib.Seq.{length-paste-head}
 use native.Mathlib.Omega.{arith}
 
 module _ {A : Type 0} where
@@ -29,7 +33,8 @@ module _ {A : Type 0} where
   length-part n at l h = length-take-le n (drop at l) (rw length-drop (omega arith))
 
   -- An element of a part, where it lies in the whole.
-  pub part-at : (n at k : ℕ) (l : List A) (z : A) → k < n → getD (take n (drop at l)) k z ≡ getD l (at + k) z
+  pub part-at : (n at k : ℕ) (l : List A) (z : A) → k < n
+      → getD (take n (drop at l)) k z ≡ getD l (at + k) z
   part-at n at k l z h = getD-take n (drop at l) k z h ∙ getD-drop at l k z
 
   -- What a copy has not reached yet.
@@ -42,14 +47,16 @@ module _ {A : Type 0} where
       rw zero-on at (sym left ∙ ap (λ (x : List A). getD x 0 z) (drop-paste d at s k h q) ∙ right)
 
   -- What a copy has reached, and what stands before it and after it.
-  module _ (d : List A) (at : ℕ) (s : List A) (n : ℕ) (z : A) (room : at + n ≤ length d) (long : n ≤ length s) where
+  module _ (d : List A) (at : ℕ) (s : List A) (n : ℕ) (z : A) (room : at + n ≤ length d)
+      (long : n ≤ length s) where
     head-length : length (take at d ++ take n s) ≡ at + n
     head-length = length-paste-head d at s n (omega arith) long
 
     pub paste-at : (k : ℕ) → k < n → getD (paste d at s n) (at + k) z ≡ getD s k z
     paste-at k h =
         let front : length (take at d) ≡ at = length-take-le at d (omega arith) in
-        List·getD-append (take at d ++ take n s) (drop (at + n) d) z (at + k) (omega (arith, head-length))
+        List·getD-append (take at d ++ take n s) (drop (at + n) d) z (at + k)
+        (omega (arith, head-length))
         ∙ rw front at (getD-append-add (take at d) (take n s) k z)
         ∙ getD-take n s k z h
 
@@ -88,17 +95,20 @@ module _ {A : Type 0} where
   stored d at k (a ∷ s) = stored (set d (at + k) a) at (suc k) s
 
   stored-on : (d : List A) (at : ℕ) (p s : List A) → at + length (p ++ s) ≤ length d
-      → stored (paste d at (p ++ s) (length p)) at (length p) s ≡ paste d at (p ++ s) (length (p ++ s))
+      → stored (paste d at (p ++ s) (length p)) at (length p) s
+      ≡ paste d at (p ++ s) (length (p ++ s))
   stored-on d at p [] h = ap (λ (n : ℕ). paste d at (p ++ []) n) (ap length (sym (append-nil p)))
   stored-on d at p (a ∷ s) h =
       let long : length (p ++ (a ∷ s)) ≡ length p + suc (length s) = length-append p (a ∷ s) in
-      let next : length (p ++ (a ∷ [])) ≡ suc (length p) = omega (arith, length-append p (a ∷ [])) in
+      let next : length (p ++ (a ∷ [])) ≡ suc (length p) =
+      omega (arith, length-append p (a ∷ [])) in
       let here : getD (p ++ (a ∷ s)) (length p) a ≡ a = getD-append-seam p a s a in
       let one : set (paste d at (p ++ (a ∷ s)) (length p)) (at + length p) a
       ≡ paste d at (p ++ (a ∷ s)) (suc (length p)) =
       rw here at (paste-suc d at (p ++ (a ∷ s)) (length p) a (omega arith) (omega arith)) in
       rw one
-      (rw (append-snoc p a s, next) at (stored-on d at (p ++ (a ∷ [])) s (rw (append-snoc p a s) h)))
+      (rw (append-snoc p a s, next) at (stored-on d at (p ++ (a ∷ [])) s
+      (rw (append-snoc p a s) h)))
 
   pub stored-all : (d : List A) (at : ℕ) (s : List A) → at + length s ≤ length d
       → stored d at 0 s ≡ paste d at s (length s)
@@ -117,5 +127,6 @@ module _ {A : Type 0} where
   fill-on n a d h = rw add-one (fill-suc n a d h)
 
   -- And is full at its end.
-  pub filled : (a : A) (d : List A) → replicate (length d) a ++ drop (length d) d ≡ replicate (length d) a
+  pub filled : (a : A) (d : List A)
+      → replicate (length d) a ++ drop (length d) d ≡ replicate (length d) a
   filled a d = rw drop-length (append-nil (replicate (length d) a))

@@ -55,14 +55,16 @@ pub joined : (low high : List ℕ)
     → valueOf (low ++ high) ≡ valueOf low + 256 ^ length low * valueOf high
 joined [] high = omega (arith, pow-zero 256)
 joined (byte ∷ low) high =
-    let rest : valueOf (low ++ high) ≡ valueOf low + 256 ^ length low * valueOf high = joined low high in
+    let rest : valueOf (low ++ high) ≡ valueOf low + 256 ^ length low * valueOf high =
+    joined low high in
     let scaled : 256 * 256 ^ length low * valueOf high ≡ 256 * (256 ^ length low * valueOf high) =
     mul-assoc 256 (256 ^ length low) (valueOf high) in
     rw pow-succ' (omega arith)
 
 -- The value of a part, from its first byte and the rest.
 pub one-more : (n i : ℕ) (list : List ℕ) → i < length list
-    → valueOf (take (suc n) (drop i list)) ≡ getD list i 0 + 256 * valueOf (take n (drop (suc i) list))
+    → valueOf (take (suc n) (drop i list))
+    ≡ getD list i 0 + 256 * valueOf (take n (drop (suc i) list))
 one-more n i list h = rw (drop-cons list i 0)
 
 -- The value of a part of two bytes.

@@ -1,15 +1,18 @@
--- Laws of an order of refusals: a test that holds, a test that fails, what an acceptance says, exactly when.
+-- Laws of an order of refusals: a test that holds, a test that fails, what an acceptance says,
+-- exactly when.
 use Prim.Native.Nat.{ℕ}
 use mathlib.Core.Path.{_≡_, refl, sym, ap, _∙_, subst}
 use mathlib.Core.Logic.{_↔_}
 use mathlib.Core.Bool.{Bool, true, false}
-use Rattle.basis.specs.Order.{Answer, refused, accepted, Order, check, give, answer, andThen, isAccepted}
+use Rattle.basis.specs.Order.{Answer, refused, accepted, Order, check, give, answer, andThen}
+use Rattle.basis.specs.Order.{isAccepted}
 use Rattle.basis.specs.Order.{First, here, later, Passed, end, after}
 use Rattle.basis.proofs.Tests.{never}
 
 module _ {A : Type 0} where
   -- A test that holds leaves the answer to the rest.
-  pub passes : (n : ℕ) (rest : Order A) {t : Bool} → t ≡ true → answer (check t n rest) ≡ answer rest
+  pub passes : (n : ℕ) (rest : Order A) {t : Bool} → t ≡ true
+      → answer (check t n rest) ≡ answer rest
   unfolding answer
   passes n rest e = rw e
 

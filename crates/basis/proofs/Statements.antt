@@ -7,4 +7,5 @@ pub exactlyWhen : ExactlyWhen
 exactlyWhen = record { number = exactly-number; result = exactly-result }
 
 pub width : Width
-width = record { long = long; bytes = are-bytes; read = read-back; written = written-back; below = below }
+width = record
+    { long = long; bytes = are-bytes; read = read-back; written = written-back; below = below }

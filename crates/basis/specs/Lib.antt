@@ -2,7 +2,8 @@
 --   Numbers       the numbers given back, and the limits, by name
 --   Order         an order of refusals, top to bottom, and the answer that it comes to
 --   LittleEndian  a number and its bytes, the least first, at any width
---   Statements    what is claimed of these, each with its proof of that type in proofs/Statements.antt
+--   Statements    what is claimed of these, each with its proof of that type in
+--                 proofs/Statements.antt
 pub mod Numbers
 pub mod Order
 pub mod LittleEndian

@@ -1,4 +1,4 @@
--- Document 01, 'Numbers given back' and 'Order': rules tested one after the other, each with its number.
+-- Document 01, 'Numbers given back' and 'Order': rules tested in turn, each with its number.
 use Prim.Native.Nat.{ℕ}
 use mathlib.Core.Bool.{Bool, true, false}
 
@@ -7,7 +7,7 @@ pub data Answer (A : Type 0) : Type 0 where
   refused : ℕ → Answer A
   accepted : A → Answer A
 
--- An order of refusals: each rule a test and the number given where it fails; at the end what is given.
+-- An order of refusals: each rule a test and its number where it fails; at the end what is given.
 pub data Order (A : Type 0) : Type 0 where
   check : Bool → ℕ → Order A → Order A
   give : A → Order A
@@ -21,7 +21,8 @@ answer (give a) = accepted a
 -- The first test of the order that fails has this number.
 pub data First {A : Type 0} (number : ℕ) : Order A → Type 0 where
   here : {rest : Order A} → First number (check false number rest)
-  later : {earlier : ℕ} {rest : Order A} → First number rest → First number (check true earlier rest)
+  later : {earlier : ℕ} {rest : Order A} → First number rest
+      → First number (check true earlier rest)
 
 -- No test of the order fails, and this is given at its end.
 pub data Passed {A : Type 0} (a : A) : Order A → Type 0 where

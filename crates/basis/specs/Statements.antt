@@ -1,4 +1,4 @@
--- What is claimed of orders and of little-endian numbers. proofs/Statements.antt proves each record whole.
+-- What is claimed of orders and of little-endian numbers; proofs/Statements.antt proves it.
 use Prim.Native.Nat.{ℕ, _<_, _^_}
 use mathlib.Core.Path.{_≡_}
 use mathlib.Core.Logic.{_↔_}

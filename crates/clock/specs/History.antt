@@ -1,5 +1,5 @@
 -- Document 01, 'From opening on': a history is a list of readings after the first, in the order in
--- which they are given. Each goes to the clock that the one before it clockLeft.
+-- which they are given. Each goes to the clock that the one before it left.
 use Prim.Native.Nat.{ℕ, _+_, _-_, _≤_}
 use mathlib.Core.Path.{_≡_}
 use mathlib.Core.List.{List, [], _∷_}

@@ -34,7 +34,8 @@ module _ (i : ℕ) (c : Carrier) (state : List ℤ) (room : 5 * i + 5 ≤ length
   pub carrier-put : carrier i (put i c state) ≡ c
   unfolding carrier wordsOf
   carrier-put =
-      let x : getD (put i c state) (5 * i) (pos 0) ≡ c .x = rw (add-zero (5 * i)) at (word 0 (omega arith)) in
+      let x : getD (put i c state) (5 * i) (pos 0) ≡ c .x =
+      rw (add-zero (5 * i)) at (word 0 (omega arith)) in
       rw (x, word 1 (omega arith), word 2 (omega arith), word 3 (omega arith), word 4 (omega arith))
 
   -- A word outside carrier i's.
@@ -70,7 +71,8 @@ module _ (i : ℕ) (c : Carrier) (state : List ℤ) (room : 5 * i + 5 ≤ length
             after-word (5 * k + 4) (omega (arith, d)),
           )
 
--- Where carrier i is free: its own words play no part, and putting it leaves the others as free as they were.
+-- Where carrier i is free: its own words play no part, and putting it leaves the others as free as
+-- they were.
 pub free-own : (world : World) (i : ℕ) (c : Carrier) (state : List ℤ)
     → freeFor world i (put i c state) ≡ freeFor world i state
 unfolding freeFor
@@ -89,17 +91,21 @@ module _ (world : World) (held : Held) (i : ℕ) (state : List ℤ) (h : i < wor
   room = omega (arith, s .room)
 
   -- The carrier that is put in is sound where it stands.
-  stepped : sound (freeFor world i state) (step (freeFor world i state) held (carrier i state)) ≡ true
+  stepped : sound (freeFor world i state) (step (freeFor world i state) held (carrier i state))
+      ≡ true
   unfolding soundState
-  stepped = step-sound (freeFor world i state) held (carrier i state) fits (passes _ _ (s .sound) i h)
+  stepped =
+      step-sound (freeFor world i state) held (carrier i state) fits (passes _ _ (s .sound) i h)
 
   each : (k : ℕ) → k < world .yard .b
-      → sound (freeFor world k (stepOne world held i state)) (carrier k (stepOne world held i state)) ≡ true
+      → sound (freeFor world k (stepOne world held i state))
+      (carrier k (stepOne world held i state)) ≡ true
   unfolding stepOne soundState
   each k l = go (eqb i k) refl
     where
       go : (t : Bool) → eqb i k ≡ t
-          → sound (freeFor world k (stepOne world held i state)) (carrier k (stepOne world held i state)) ≡ true
+          → sound (freeFor world k (stepOne world held i state))
+          (carrier k (stepOne world held i state)) ≡ true
       go true e =
           let c : Carrier = step (freeFor world i state) held (carrier i state) in
           rw (← eqb-true i k e, free-own world i c state, carrier-put i c state room) stepped
@@ -143,4 +149,5 @@ lever-fits t i (more {r = r} {rest = rest} w a) =
 -- One step under records within the limits keeps the state rule.
 pub step-keeps : {carriers : ℕ} {l : List Record} (world : World) (t : ℕ) (state : List ℤ)
     → AllWithin carriers l → StateFits world state → StateFits world (stepAt world l t state)
-step-keeps {l = l} world t state a s = all-keeps world (λ i. leverAt t i l) (λ i. lever-fits t i a) state s
+step-keeps {l = l} world t state a s =
+    all-keeps world (λ i. leverAt t i l) (λ i. lever-fits t i a) state s

@@ -17,7 +17,8 @@ use Rattle.fleet.specs.State.{wordsOf, put, startTo}
 -- One word after the other is the carrier put in its place.
 pub put-words : (i : ℕ) (c : Carrier) (state : List ℤ) → 5 * i + 5 ≤ length state
     → set
-    (set (set (set (set state (5 * i) (c .x)) (5 * i + 1) (c .y)) (5 * i + 2) (c .u)) (5 * i + 3) (c .v))
+    (set (set (set (set state (5 * i) (c .x)) (5 * i + 1) (c .y)) (5 * i + 2) (c .u)) (5 * i + 3)
+    (c .v))
     (5 * i + 4) (c .lever)
     ≡ put i c state
 unfolding put wordsOf
@@ -47,5 +48,6 @@ start-on boxes state i h =
     let long : length (startTo boxes i) ≡ 5 * i = length-start boxes i in
     let next : 5 * suc i ≡ 5 * i + 5 = omega arith in
     let rest : drop (5 * i + 5) (startTo boxes i ++ drop (5 * i) state) ≡ drop (5 * i + 5) state =
-    rw long at (drop-append-add (startTo boxes i) (drop (5 * i) state) 5) ∙ drop-drop 5 (5 * i) state in
+    rw long at (drop-append-add (startTo boxes i) (drop (5 * i) state) 5)
+    ∙ drop-drop 5 (5 * i) state in
     rw (take-at (startTo boxes i) (drop (5 * i) state) (5 * i) long, rest, add-one i, next)

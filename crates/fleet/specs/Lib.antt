@@ -1,13 +1,11 @@
--- All carriers of a yard: their state words, one step of them all, and runs of steps. Read in this order:
+-- All carriers of a yard: their state words, a step of them all, runs of steps. Read in this order:
 --   State       the words of a carrier, in and out; where each is free; the state rule
 --   Step        one step of all carriers in number order, under the levers held at it
 --   Run         steps one after the other, without saved rows and with them
 --   Fits        what the functions over a world, a log and the buffers are given
 --   Cursor      for contracts of parts only: where the cursor of a step goes
---   Statements  what is claimed of these, each with its proof of that type in proofs/Statements.antt
 pub mod State
 pub mod Step
 pub mod Run
 pub mod Fits
 pub mod Cursor
-pub mod Statements

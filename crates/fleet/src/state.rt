@@ -57,7 +57,8 @@ pub fn state_sound(yard: Yard, cells: &[u8], boxes: &[i32], state: &[i32]) -> bo
     requires world { ⌜ WorldFits (worldOf yard (now cells) (now boxes)) ⌝ }
     requires room { ⌜ length (now state) ≡ carrierWords * yard .b ⌝ }
     ensures rule { λ r. ⌜
-        r ≡ soundState (worldOf yard (now (cells .entry)) (now (boxes .entry))) (now (state .entry)) ⌝ }
+        r ≡ soundState (worldOf yard (now (cells .entry)) (now (boxes .entry)))
+        (now (state .entry)) ⌝ }
 {
     let b = yard.b as usize;
     for i in 0..b {

@@ -1,5 +1,5 @@
-// Hand-made records and logs, sound and damaged in each way that document 01 names: a line for each,
-// with what the library answers. The file `stdout` holds what the rules say.
+// Hand-made records and logs, sound and damaged in each way that document 01 names: a line for
+// each, with what the library answers. The file `stdout` holds what the rules say.
 use libc::STDOUT_FILENO;
 use record::Buffer;
 use record::Outcome;

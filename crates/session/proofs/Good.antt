@@ -81,5 +81,6 @@ module _ (session : Session) (l : Lent) where
             few = g .buffer .few;
             room = omega (arith, g .buffer .size, g .buffer .few);
             unrefused = held-unrefused _ (session .held) (l .log) b (g .buffer);
-            ascends = ascends (held-climbs (session .yard .b) (session .held) (l .log) b (g .buffer));
+            ascends =
+                ascends (held-climbs (session .yard .b) (session .held) (l .log) b (g .buffer));
           }

@@ -17,12 +17,14 @@ use Rattle.session.specs.Sound.{sound}
 use Rattle.session.specs.Calls.{courseIn, withClock, readOn, readingOrder}
 
 module _ (session : Session) (l : Lent) (t : ℕ) (ok : sound session l ≡ true) where
-  pub clock-refuses : (number : ℕ) → answer (clockOrder stepLength (session .clock) t) ≡ refused number
+  pub clock-refuses : (number : ℕ)
+      → answer (clockOrder stepLength (session .clock) t) ≡ refused number
       → answer (readingOrder session l t) ≡ refused number
   unfolding readingOrder
   clock-refuses number e = passes _ _ ok ∙ stops _ _ e
 
-  module _ (given : Given) (e : answer (clockOrder stepLength (session .clock) t) ≡ accepted given) where
+  module _ (given : Given)
+      (e : answer (clockOrder stepLength (session .clock) t) ≡ accepted given) where
     pub clock-gives : answer (readingOrder session l t) ≡ accepted (readOn session l given)
     unfolding readingOrder
     clock-gives = passes _ _ ok ∙ goes-on _ _ e ∙ gives _
@@ -34,7 +36,8 @@ module _ (session : Session) (l : Lent) (t : ℕ) (ok : sound session l ≡ true
         omega (arith, told .0 .2, ap (λ (g : Given). g .due) (told .1))
 
 -- What the steps due leave is what the reading leaves.
-pub read-left : (session : Session) (l : Lent) (given : Given) (state rows : List ℤ) (k : ℕ) → k ≡ given .due
+pub read-left : (session : Session) (l : Lent) (given : Given) (state rows : List ℤ) (k : ℕ)
+    → k ≡ given .due
     → courseOf state rows
     ≡ runSaving (worldIn session l) (heldIn session l) (session .clock .steps) k (courseIn l)
     → left (accepted (withClock session (given .clock))) state rows (l .log)
@@ -42,5 +45,6 @@ pub read-left : (session : Session) (l : Lent) (given : Given) (state rows : Lis
 unfolding readOn
 read-left session l given state rows k due e =
     ap
-    (λ (course : Course). left (accepted (withClock session (given .clock))) (course .state) (course .rows) (l .log))
+    (λ (course : Course). left (accepted (withClock session (given .clock))) (course .state)
+    (course .rows) (l .log))
     (e ∙ rw due)

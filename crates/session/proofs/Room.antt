@@ -42,7 +42,8 @@ module _ (yard : Yard) (cells boxes state : ℕ) where
     unfolding worldRoom
     boxes-wrong h = rw (eq-eqb _ _ c, ne-eqb _ _ h)
 
-    pub state-decides : boxes ≡ 4 * yard .b → worldRoom yard cells boxes state ≡ eqb state (5 * yard .b)
+    pub state-decides : boxes ≡ 4 * yard .b
+        → worldRoom yard cells boxes state ≡ eqb state (5 * yard .b)
     unfolding worldRoom
     state-decides h = rw (eq-eqb _ _ c, eq-eqb _ _ h)
 
@@ -67,17 +68,20 @@ world-room yard cells boxes state e =
     }
 
 module _ (yard : Yard) (l : Lent) where
-  pub world-wrong : worldRoom yard (length (l .cells)) (length (l .boxes)) (length (l .state)) ≡ false
+  pub world-wrong : worldRoom yard (length (l .cells)) (length (l .boxes)) (length (l .state))
+      ≡ false
       → room yard l ≡ false
   unfolding room
   world-wrong e = rw e
 
-  module _ (w : worldRoom yard (length (l .cells)) (length (l .boxes)) (length (l .state)) ≡ true) where
+  module _
+      (w : worldRoom yard (length (l .cells)) (length (l .boxes)) (length (l .state)) ≡ true) where
     pub rows-wrong : (length (l .rows) ≡ 320 * yard .b → ⊥) → room yard l ≡ false
     unfolding room
     rows-wrong h = rw (w, ne-eqb _ _ h)
 
-    pub log-decides : length (l .rows) ≡ 320 * yard .b → room yard l ≡ eqb (length (l .log)) bufferSize
+    pub log-decides : length (l .rows) ≡ 320 * yard .b
+        → room yard l ≡ eqb (length (l .log)) bufferSize
     unfolding room
     log-decides h = rw (w, eq-eqb _ _ h)
 

@@ -13,7 +13,8 @@ use Rattle.fleet.specs.Run.{rowCount}
 use Rattle.session.specs.declared.Session.{Session}
 use Rattle.session.specs.Lent.{Lent, worldIn}
 
--- Rule 10, 'exactly W·H cell bytes, 4·B world words, 5·B state words': the lengths that replay asks.
+-- Rule 10, 'exactly W·H cell bytes, 4·B world words, 5·B state words': the lengths that replay
+-- asks.
 unfoldable pub worldRoom : Yard → ℕ → ℕ → ℕ → Bool
 worldRoom yard cells boxes state =
     eqb cells (yard .w * yard .h)

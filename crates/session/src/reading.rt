@@ -26,9 +26,11 @@ impl Session {
         ensures read { λ r. ⌜
             left (runningOf r) (now (state .exit)) (now (rows .exit)) (now (log .entry))
             ≡ leaves
-            (lent (now (cells .entry)) (now (boxes .entry)) (now (state .entry)) (now (rows .entry)) (now (log .entry)))
+            (lent (now (cells .entry)) (now (boxes .entry)) (now (state .entry))
+            (now (rows .entry)) (now (log .entry)))
             (answer (readingOrder self
-            (lent (now (cells .entry)) (now (boxes .entry)) (now (state .entry)) (now (rows .entry)) (now (log .entry))) reading)) ⌝ }
+            (lent (now (cells .entry)) (now (boxes .entry)) (now (state .entry))
+            (now (rows .entry)) (now (log .entry))) reading)) ⌝ }
     {
         let yard = self.yard;
         let clock = self.clock;

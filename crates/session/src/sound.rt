@@ -46,7 +46,8 @@ pub fn has_room(
 ) -> bool
     requires ranges { ⌜ rangesHold yard ≡ true ⌝ }
     ensures room { λ r. ⌜
-        r ≡ room yard (lent (now (cells .entry)) (now (boxes .entry)) (now (state .entry)) (now (rows .entry)) (now (log .entry))) ⌝ }
+        r ≡ room yard (lent (now (cells .entry)) (now (boxes .entry)) (now (state .entry))
+        (now (rows .entry)) (now (log .entry))) ⌝ }
 {
     let b = yard.b as usize;
     if !world_room(yard, cells.len(), boxes.len(), state.len()) {
@@ -68,7 +69,8 @@ pub fn is_sound(
     log: &[u8],
 ) -> bool
     ensures sound { λ r. ⌜
-        r ≡ sound session (lent (now (cells .entry)) (now (boxes .entry)) (now (state .entry)) (now (rows .entry)) (now (log .entry))) ⌝ }
+        r ≡ sound session (lent (now (cells .entry)) (now (boxes .entry)) (now (state .entry))
+        (now (rows .entry)) (now (log .entry))) ⌝ }
 {
     let yard = session.yard;
     let clock = session.clock;

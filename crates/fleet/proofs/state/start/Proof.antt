@@ -73,7 +73,8 @@ returns c =
     let s = l .before .before in
     let all : l .loop .i ≡ s .args .yard .b = omega arith in
     l .loop .inv .2
-    ∙ rw (all, drop-of-length-le (now (s .args .state)) {i = 5 * s .args .yard .b} (omega arith)) (append-nil _)
+    ∙ rw (all, drop-of-length-le (now (s .args .state)) {i = 5 * s .args .yard .b} (omega arith))
+    (append-nil _)
 
 pub start-spec : {M : Type 1} → statement M
 start-spec =

@@ -31,7 +31,8 @@ tested : (c : tie.After-is-sound Inv-loop μ-loop)
     → let s = c .before .before .before .before .before .before .before in
     let i = c .before .before .before .before .loop .i in
     let world = worldOf (s .args .yard) (now (s .args .cells)) (now (s .args .boxes)) in
-    c .is-sound .result ≡ sound (freeFor world i (now (s .args .state))) (carrier i (now (s .args .state)))
+    c .is-sound .result
+    ≡ sound (freeFor world i (now (s .args .state))) (carrier i (now (s .args .state)))
 unfolding freeFor
 tested c = c .is-sound .ensures ∙ rw (c .before .before .at .ensures, c .before .load .ensures)
 
@@ -52,13 +53,15 @@ is-sound-requires c κs =
     let a = c .before in
     let s = a .before .before .before .before .before in (
       s .pre .0 .laid,
-      rw (a .at .ensures) (sizes-fit _ _ (s .pre .0 .sizes) (a .before .before .loop .i) (search needs)),
+      rw (a .at .ensures)
+          (sizes-fit _ _ (s .pre .0 .sizes) (a .before .before .loop .i) (search needs)),
     )
 
 returns : tie.Need-returns Inv-loop μ-loop
 unfolding soundState
 returns c =
-    sym (one-fails _ _ (c .before .before .before .before .before .loop .i) (search needs) (failed (tested (c .before)) (c .if1 .taken)))
+    sym (one-fails _ _ (c .before .before .before .before .before .loop .i) (search needs)
+    (failed (tested (c .before)) (c .if1 .taken)))
 
 add-i : tie.Need-add-i Inv-loop μ-loop
 add-i c = search needs
@@ -69,7 +72,8 @@ loop-less c = search needs
 loop-again : tie.Need-loop-again Inv-loop μ-loop
 loop-again c = (
   search needs,
-  below-more _ _ (c .before .before .before .before .before .loop .inv .1) (passed (tested (c .before)) (c .if1 .left)),
+  below-more _ _ (c .before .before .before .before .before .loop .inv .1)
+      (passed (tested (c .before)) (c .if1 .left)),
 )
 
 returns-2 : tie.Need-returns-2 Inv-loop μ-loop

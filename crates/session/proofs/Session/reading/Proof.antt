@@ -26,7 +26,8 @@ abbrev start : tie.Else1 → tie.Start
 start e = e .before .before .before .before .before .before .before .before
 
 abbrev mem : tie.Start → Lent
-mem s = lent (now (s .args .cells)) (now (s .args .boxes)) (now (s .args .state)) (now (s .args .rows)) (now (s .args .log))
+mem s = lent (now (s .args .cells)) (now (s .args .boxes)) (now (s .args .state))
+    (now (s .args .rows)) (now (s .args .log))
 
 ok : (e : tie.Else1) → sound (start e .args .self) (mem (start e)) ≡ true
 ok e = passed (e .before .is-sound .ensures) (e .if1 .left)
@@ -43,7 +44,8 @@ fits : (n : tie.After-next)
     → start (n .before .before .before) .args .self .clock .steps + given n .due ≤ mostSteps
 fits n =
     let e = n .before .before .before in
-    due-fits (start e .args .self) (mem (start e)) (start e .args .reading) (ok e) (given n) (gave n)
+    due-fits (start e .args .self) (mem (start e)) (start e .args .reading) (ok e) (given n)
+    (gave n)
 
 is-sound-requires : tie.Need-is-sound-requires
 is-sound-requires c κs = search needs
@@ -81,8 +83,14 @@ run-saving-requires c κs =
     let n = c .before .before .before .before in
     let e = n .before .before .before in
     let s = start e in
-    let g = good (s .args .self) (mem s) (ok e) in
-    (world-fits _ _ g, (log-fits _ _ g (λ k. e .before .before .before .before .before .before .shared-slice-known2 .given k .fits), (omega arith, (state-fits _ _ g, rows-fit _ _ g))))
+    let g = good (s .args .self) (mem s) (ok e) in (
+      world-fits _ _ g,
+      (
+        log-fits _ _ g (λ k. e .before .before .before .before .before .before
+            .shared-slice-known2 .given k .fits),
+        (omega arith, (state-fits _ _ g, rows-fit _ _ g)),
+      ),
+    )
 
 same-length-3 : tie.Need-same-length-3
 same-length-3 c = search needs
@@ -111,9 +119,11 @@ returns-3 c =
     let n = x .before .before .before .before .before in
     let e = n .before .before .before in
     let s = start e in
-    let due : s .args .self .clock .steps + given n .due - s .args .self .clock .steps ≡ given n .due = omega arith in
+    let due : s .args .self .clock .steps + given n .due - s .args .self .clock .steps
+    ≡ given n .due = omega arith in
     read-left (s .args .self) (mem s) (given n) _ _ _ due (x .run-saving .ensures)
-    ∙ sym (ap (leaves _) (clock-gives (s .args .self) (mem s) (s .args .reading) (ok e) (given n) (gave n)))
+    ∙ sym (ap (leaves _)
+    (clock-gives (s .args .self) (mem s) (s .args .reading) (ok e) (given n) (gave n)))
 
 pub reading-spec : {M : Type 1} → statement M
 reading-spec =

@@ -21,7 +21,11 @@ returns-2 : tie.Need-returns-2
 unfolding sound
 returns-2 c =
     let l1 = c .before .before in
-    rw (passed (l1 .before .ranges-hold .ensures) (l1 .if1 .left), failed (c .before .has-room .ensures) (c .if2 .taken))
+    rw (
+      passed (l1 .before .ranges-hold .ensures) (l1 .if1 .left),
+      failed
+          (c .before .has-room .ensures) (c .if2 .taken),
+    )
 
 cells-hold-requires : tie.Need-cells-hold-requires
 cells-hold-requires c κs = search needs
@@ -31,7 +35,12 @@ unfolding sound
 returns-3 c =
     let l2 = c .before .before in
     let l1 = l2 .before .before in
-    rw (passed (l1 .before .ranges-hold .ensures) (l1 .if1 .left), passed (l2 .before .has-room .ensures) (l2 .if2 .left), failed (c .before .cells-hold .ensures) (c .if3 .taken))
+    rw (
+      passed (l1 .before .ranges-hold .ensures) (l1 .if1 .left),
+      passed (l2 .before .has-room
+          .ensures) (l2 .if2 .left),
+      failed (c .before .cells-hold .ensures) (c .if3 .taken),
+    )
 
 sizes-hold-requires : tie.Need-sizes-hold-requires
 sizes-hold-requires c κs =
@@ -46,7 +55,14 @@ returns-4 c =
     let l3 = c .before .before in
     let l2 = l3 .before .before in
     let l1 = l2 .before .before in
-    rw (passed (l1 .before .ranges-hold .ensures) (l1 .if1 .left), passed (l2 .before .has-room .ensures) (l2 .if2 .left), passed (l3 .before .cells-hold .ensures) (l3 .if3 .left), failed (c .before .sizes-hold .ensures) (c .if4 .taken))
+    rw (
+      passed (l1 .before .ranges-hold .ensures) (l1 .if1 .left),
+      passed
+          (l2 .before .has-room .ensures) (l2 .if2 .left),
+      passed (l3 .before .cells-hold .ensures)
+          (l3 .if3 .left),
+      failed (c .before .sizes-hold .ensures) (c .if4 .taken),
+    )
 
 is-sound-requires : tie.Need-is-sound-requires
 is-sound-requires c κs = search needs
@@ -58,7 +74,16 @@ returns-5 c =
     let l3 = l4 .before .before in
     let l2 = l3 .before .before in
     let l1 = l2 .before .before in
-    rw (passed (l1 .before .ranges-hold .ensures) (l1 .if1 .left), passed (l2 .before .has-room .ensures) (l2 .if2 .left), passed (l3 .before .cells-hold .ensures) (l3 .if3 .left), passed (l4 .before .sizes-hold .ensures) (l4 .if4 .left), failed (c .before .is-sound .ensures) (c .if5 .taken))
+    rw (
+      passed (l1 .before .ranges-hold .ensures) (l1 .if1 .left),
+      passed
+          (l2 .before .has-room .ensures) (l2 .if2 .left),
+      passed (l3 .before .cells-hold .ensures)
+          (l3 .if3 .left),
+      passed (l4 .before .sizes-hold .ensures) (l4 .if4 .left),
+      failed
+          (c .before .is-sound .ensures) (c .if5 .taken),
+    )
 
 buffer-sound-requires : tie.Need-buffer-sound-requires
 buffer-sound-requires c κs = search needs
@@ -71,7 +96,18 @@ returns-6 c =
     let l3 = l4 .before .before in
     let l2 = l3 .before .before in
     let l1 = l2 .before .before in
-    rw (passed (l1 .before .ranges-hold .ensures) (l1 .if1 .left), passed (l2 .before .has-room .ensures) (l2 .if2 .left), passed (l3 .before .cells-hold .ensures) (l3 .if3 .left), passed (l4 .before .sizes-hold .ensures) (l4 .if4 .left), passed (l5 .before .is-sound .ensures) (l5 .if5 .left), failed (c .before .buffer-sound .ensures) (c .if6 .taken))
+    rw (
+      passed (l1 .before .ranges-hold .ensures) (l1 .if1 .left),
+      passed
+          (l2 .before .has-room .ensures) (l2 .if2 .left),
+      passed (l3 .before .cells-hold .ensures)
+          (l3 .if3 .left),
+      passed (l4 .before .sizes-hold .ensures) (l4 .if4 .left),
+      passed
+          (l5 .before .is-sound .ensures) (l5 .if5 .left),
+      failed
+          (c .before .buffer-sound .ensures) (c .if6 .taken),
+    )
 
 state-sound-requires : tie.Need-state-sound-requires
 state-sound-requires c κs =
@@ -97,7 +133,18 @@ returns-7 c =
     let l3 = l4 .before .before in
     let l2 = l3 .before .before in
     let l1 = l2 .before .before in
-    rw (passed (l1 .before .ranges-hold .ensures) (l1 .if1 .left), passed (l2 .before .has-room .ensures) (l2 .if2 .left), passed (l3 .before .cells-hold .ensures) (l3 .if3 .left), passed (l4 .before .sizes-hold .ensures) (l4 .if4 .left), passed (l5 .before .is-sound .ensures) (l5 .if5 .left), passed (l6 .before .buffer-sound .ensures) (l6 .if6 .left)) (c .state-sound .ensures)
+    rw (
+      passed (l1 .before .ranges-hold .ensures) (l1 .if1 .left),
+      passed
+          (l2 .before .has-room .ensures) (l2 .if2 .left),
+      passed (l3 .before .cells-hold .ensures)
+          (l3 .if3 .left),
+      passed (l4 .before .sizes-hold .ensures) (l4 .if4 .left),
+      passed
+          (l5 .before .is-sound .ensures) (l5 .if5 .left),
+      passed
+          (l6 .before .buffer-sound .ensures) (l6 .if6 .left),
+    ) (c .state-sound .ensures)
 
 pub is-sound-spec : {M : Type 1} → statement M
 is-sound-spec =

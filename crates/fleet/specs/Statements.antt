@@ -1,1 +1,0 @@
--- What is claimed of the fleet. proofs/Statements.antt proves each record whole.
