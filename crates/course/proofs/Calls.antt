@@ -11,7 +11,7 @@ use borrow.Author.Tests.{ltb-true, ltb-false, leb-true, leb-false, eqb-true, eqb
 use borrow.Author.Tests.{lt-ltb, le-ltb, le-leb, lt-leb, eq-eqb, ne-eqb}
 use Rattle.basis.specs.Numbers.{CONFLICT, LATE, FULL, FAULT, mostRecords}
 use Rattle.basis.specs.Order.{Answer, refused, accepted, check, give, answer}
-use Rattle.basis.proofs.Order.{passes, fails, gives, apart}
+use Rattle.basis.proofs.Order.{passes, fails, gives, apart, stops, goes-on}
 use Rattle.record.specs.Bytes.{recordOf, readOrder}
 use Rattle.record.specs.Held.{leverAt}
 use Rattle.record.specs.declared.bytes.Record.{Record}
@@ -22,7 +22,6 @@ use Rattle.course.specs.Session.{Session}
 use Rattle.course.specs.Calls.{Call, reading, delivery, Outcome, read, taken, held}
 use Rattle.course.specs.Calls.{readOn, takeIn, notLate, notFull, rowGood, placeOrder, orderOf}
 use Rattle.course.specs.Calls.{answerTo, left, next}
-use Rattle.course.proofs.Onward.{stops, goes-on}
 
 module _ {world : World} (s : Session world) where
   -- The lever held at a record's place, and the answer by the place.

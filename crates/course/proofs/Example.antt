@@ -1,7 +1,7 @@
 -- The example of specs/Example.antt, by computation.
 use mathlib.Core.Path.{refl}
 use native.Mathlib.Omega.{arith}
-use Rattle.basis.specs.Order.{answer}
+use Rattle.basis.specs.Order.{answer, andThen}
 use Rattle.record.specs.Bytes.{recordOf, bytesOf, wellFormed, limitsOrder, readOrder}
 use Rattle.record.specs.Log.{precedes}
 use Rattle.record.specs.Held.{leverAt, putIn}
@@ -9,7 +9,6 @@ use Rattle.clock.specs.Clock.{due, ticked, isSound}
 use Rattle.clock.specs.Reading.{readingOrder}
 use Rattle.course.specs.World.{Lawful, after}
 use Rattle.course.specs.Session.{steps, withLog}
-use Rattle.course.specs.Onward.{andThen}
 use Rattle.course.specs.Calls.{orderOf, next, run}
 use Rattle.course.specs.Words.{Sized}
 use Rattle.course.specs.Example.{counting, world, Example}

@@ -1,5 +1,4 @@
 -- Laws of the model, for the crates above.
---   Onward      an order that goes on with what another gives
 --   Levers      the lever held at a place after a record is put in
 --   Records     the records held, as members and by the levers at their places
 --   Rows        steps made and made again: the state, and the saved rows
@@ -10,7 +9,6 @@
 --   Words       rows laid end to end
 --   Example     the example of 100 steps made
 --   Statements  the statements of specs/Statements.antt
-pub mod Onward
 pub mod Levers
 pub mod Records
 pub mod Rows
