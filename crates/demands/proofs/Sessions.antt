@@ -1,0 +1,127 @@
+-- Every session as in demand 3 has the words of a session of the model.
+use Prim.Native.Nat.{ℕ, _+_, _*_}
+use mathlib.Core.Path.{_≡_, refl, sym, ap, subst, _∙_}
+use mathlib.Core.List.{List, [], _∷_, flatten}
+use native.Mathlib.Omega.{arith}
+use lib.IntN.{ℤ, pos}
+use lib.ListN.{length, replicate}
+use Rattle.basis.specs.Order.{Answer, refused, accepted, answer}
+use Rattle.basis.proofs.Order.{held, given}
+use Rattle.record.specs.Held.{bufferOf}
+use Rattle.fleet.specs.State.{World}
+use Rattle.course.specs.Session.{Session, opening}
+use Rattle.course.specs.Calls.{Call, reading, delivery, Outcome, read, taken, held as outcomeHeld}
+use Rattle.course.specs.Calls.{answerTo, left, next as modelNext, run as modelRun, sessionAfter}
+use Rattle.course.specs.Calls.{Reached as ModelReached}
+use Rattle.course.proofs.Kept.{Kept, kept-opening, kept-next, kept-run}
+use Rattle.course.proofs.Words.{flatten-replicate}
+use Rattle.session.specs.Lent.{Lent, lent, leaves}
+use Rattle.session.specs.Calls.{openOrder, opened as openedWords}
+use Rattle.session.proofs.Room.{room-says}
+use Rattle.demands.specs.Handed.{Handed, lentIn, sessionOf, standing, next, run}
+use Rattle.demands.specs.Handed.{Opened, Reached}
+use Rattle.demands.proofs.Model.{Opens, model, lawful}
+use Rattle.demands.proofs.Ties.{handed, mapped, asRead, asDelivered}
+use Rattle.demands.proofs.Ties.{same-reading, same-delivery}
+
+module _ (world : World) (opens : Opens world) where
+  -- What a call hands on has the words of what it leaves in the model.
+  same-next : (s : Session (model world)) → Kept s → (call : Call)
+      → next world (handed world s) call ≡ handed world (modelNext s call)
+  unfolding next modelNext
+  same-next s k (reading t) =
+      rw (same-reading world opens s k t) (go (answerTo s (reading t)))
+    where
+      go : (a : Answer (Outcome (model world)))
+          → standing (λ session. session) (handed world s .result)
+          (leaves (lentIn world (handed world s)) (mapped (asRead world opens s k) a))
+          ≡ handed world (left s a)
+      go (accepted (read new)) = refl
+      go (accepted (taken new)) = refl
+      go (accepted outcomeHeld) = refl
+      go (refused number) = refl
+  same-next s k (delivery bytes) =
+      rw (same-delivery world opens s k bytes) (go (answerTo s (delivery bytes)))
+    where
+      go : (a : Answer (Outcome (model world)))
+          → standing sessionOf (handed world s .result)
+          (leaves (lentIn world (handed world s)) (mapped (asDelivered world opens s k) a))
+          ≡ handed world (left s a)
+      go (accepted (read new)) = refl
+      go (accepted (taken new)) = refl
+      go (accepted outcomeHeld) = refl
+      go (refused number) = refl
+
+  pub same-run : (s : Session (model world)) → Kept s → (calls : List Call)
+      → run world (handed world s) calls ≡ handed world (modelRun s calls)
+  unfolding run modelRun
+  same-run s k [] = refl
+  same-run s k (call ∷ calls) =
+      rw (same-next s k call)
+      (same-run (modelNext s call) (kept-next (lawful world opens) call k) calls)
+
+-- An opening that is accepted says that its world opens, and leaves the words of the model's.
+module _ {world : World} {first : ℕ} {h : Handed} (o : Opened world first h) where
+  abbrev lentThen : Lent
+  lentThen = lent (world .cells) (world .boxes) (o .state) (o .rows) (o .log)
+
+  -- Each test of the order passed, and this was given.
+  record Passed : Type 0 where
+    opens : Opens world
+    gave : openedWords (world .yard) first lentThen ≡ h
+
+  passed : Passed
+  unfolding openOrder
+  passed =
+      let a = held _ _ _ (o .accepts) in
+      let b = held _ _ _ (a .1) in
+      let c = held _ _ _ (b .1) in
+      let d = held _ _ _ (c .1) in
+      let e = held _ _ _ (d .1) in
+      let room = room-says (world .yard) lentThen (b .0) in
+      record {
+        opens =
+            record {
+              ranges = a .0;
+              laid = room .world .cells;
+              room = room .world .boxes;
+              cells = c .0;
+              sizes = d .0;
+              starts = e .0;
+            };
+        gave = given _ (e .1);
+      }
+
+  pub opens : Opens world
+  opens = passed .opens
+
+  pub opened-words : handed world (opening (model world) first) ≡ h
+  unfolding bufferOf
+  opened-words =
+      let rows : flatten (replicate 64 (replicate (5 * world .yard .b) (pos 0)))
+      ≡ replicate (320 * world .yard .b) (pos 0) =
+      let all : 64 * (5 * world .yard .b) ≡ 320 * world .yard .b = omega arith in
+      flatten-replicate (5 * world .yard .b) 64 (pos 0) ∙ rw all in
+      rw rows (passed .gave)
+
+-- The session of the model that has the words of this one.
+pub record Modelled (world : World) (first : ℕ) (calls : List Call) (h : Handed) : Type 0 where
+  pub opens : Opens world
+  pub reached : ModelReached (sessionAfter (model world) first calls)
+  pub kept : Kept (sessionAfter (model world) first calls)
+  pub words : handed world (sessionAfter (model world) first calls) ≡ h
+
+pub modelled : {world : World} {first : ℕ} {calls : List Call} {h : Handed}
+    → Reached world first calls h → Modelled world first calls h
+modelled {world} {first} {calls} r =
+    let law = opens (r .opened) in
+    let start = kept-opening (lawful world law) first in
+    record {
+      opens = law;
+      reached = record { first = first; calls = calls; leads = refl };
+      kept = kept-run (lawful world law) calls start;
+      words =
+          sym (same-run world law (opening (model world) first) start calls)
+          ∙ ap (λ h. run world h calls) (opened-words (r .opened))
+          ∙ r .leads;
+    }

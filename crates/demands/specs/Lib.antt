@@ -1,0 +1,4 @@
+-- What the manager signs for: her demands, of the words and bytes that the calls of `session` leave.
+-- Read in this order:
+--   Handed      'each call given what the last one left', at the words
+pub mod Handed
