@@ -2,3 +2,5 @@
 pub mod Model
 pub mod Ties
 pub mod Sessions
+pub mod Demand2
+pub mod Demand3

@@ -26,7 +26,7 @@ use Rattle.demands.proofs.Ties.{same-reading, same-delivery}
 
 module _ (world : World) (opens : Opens world) where
   -- What a call hands on has the words of what it leaves in the model.
-  same-next : (s : Session (model world)) → Kept s → (call : Call)
+  pub same-next : (s : Session (model world)) → Kept s → (call : Call)
       → next world (handed world s) call ≡ handed world (modelNext s call)
   unfolding next modelNext
   same-next s k (reading t) =

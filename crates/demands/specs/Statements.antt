@@ -1,0 +1,142 @@
+-- What is claimed of the calls of `session`, demand by demand. proofs/Statements.antt proves each
+-- record whole.
+use Prim.Native.Nat.{ℕ, _+_, _*_, _-_, _<_, _≤_}
+use mathlib.Core.Path.{_≡_}
+use mathlib.Core.Logic.{_↔_, _≢_}
+use mathlib.Core.Bool.{true}
+use mathlib.Core.List.{List, [], _∷_, List·Memᴰ}
+use lib.IntN.{ℤ, pos}
+use lib.ListN.{length, take, replicate}
+use Rattle.basis.specs.Numbers.{CARRIER, stepLength, mostRecords}
+use Rattle.basis.specs.Order.{Answer, refused, accepted, Order, answer, First}
+use Rattle.record.specs.Bytes.{recordOf}
+use Rattle.record.specs.Log.{ascending}
+use Rattle.record.specs.Held.{bufferOf}
+use Rattle.record.specs.declared.bytes.Record.{Record}
+use Rattle.clock.specs.History.{acceptedAfter, lastOf, NoneRefused, NoLongGap}
+use Rattle.clock.specs.Statements.{FromOpening}
+use Rattle.digest.specs.Fnv.{digestOf}
+use Rattle.digest.specs.Words.{stateBytes}
+use Rattle.shown.specs.Answer.{placeOf, answerOf}
+use Rattle.shown.specs.declared.Place.{Place}
+use Rattle.shown.specs.declared.Shown.{Shown}
+use Rattle.yard.specs.declared.world.Yard.{Yard}
+use Rattle.yard.specs.declared.carrier.Carrier.{Carrier}
+use Rattle.fleet.specs.State.{World, stateWords, carrier}
+use Rattle.fleet.specs.Run.{rowCount, rowOf}
+use Rattle.course.specs.Calls.{Call, delivery, readingsOf}
+use Rattle.session.specs.declared.Session.{Session}
+use Rattle.session.specs.declared.Running.{Running}
+use Rattle.session.specs.declared.Delivered.{Delivered}
+use Rattle.session.specs.declared.Replayed.{Replayed}
+use Rattle.session.specs.declared.Digested.{Digested}
+use Rattle.session.specs.Lent.{Lent, Left, left, Made, leaves}
+use Rattle.session.specs.Sound.{sound}
+use Rattle.session.specs.Calls.{openOrder, readingOrder, deliverOrder, replayOrder, digestOrder}
+use Rattle.session.specs.Calls.{shownOrder, taken, held}
+use Rattle.session.specs.Answers.{runningOf, deliveredOf, digestedOf, replayLeft, replay}
+use Rattle.demands.specs.Handed.{Handed, lentIn, deliveryLeaves, next, run, Reached}
+use Rattle.demands.specs.Handed.{heldBy, moved}
+
+-- Demand 2, of a session as in demand 3.
+pub record Demand2 (world : World) (h : Handed) : Type 0 where
+  -- 'After n steps the state is the start state moved n times by that rule under the records held,
+  pub state : h .state ≡ moved world (h .result .clock .steps) (heldBy h)
+  -- and replay from the log gives the same', whatever the state buffer held.
+  pub replay : (state : List ℤ) → length state ≡ stateWords world
+      → answer (replayOrder (world .yard) (h .result .clock .steps)
+      (world .cells) (world .boxes) state (take (8 * h .result .held) (h .log)))
+      ≡ accepted (h .state)
+  -- 'row t mod 64 holds the state before step t for the last 64 steps made';
+  pub rows : (t : ℕ) → t < h .result .clock .steps → h .result .clock .steps ≤ t + rowCount
+      → rowOf (stateWords world) t (h .rows) ≡ moved world t (heldBy h)
+  -- a row that no step has used is as opening filled it;
+  pub unused : (t : ℕ) → h .result .clock .steps ≤ t → t < rowCount
+      → rowOf (stateWords world) t (h .rows) ≡ replicate (stateWords world) (pos 0)
+  -- 'The saved rows are 64 states, 320·B words.'
+  pub long : length (h .rows) ≡ rowCount * stateWords world
+  -- 'Held records stand in the log buffer strictly ascending by step, then carrier; at most 2,048;
+  -- the bytes after them are zero.'
+  pub log : h .log ≡ bufferOf (heldBy h)
+  pub ascends : ascending (heldBy h) ≡ true
+  pub few : h .result .held ≤ mostRecords
+  -- The digest is that of the steps made and of the state moved n times.
+  pub digest : answer (digestOrder (h .result) (lentIn world h))
+      ≡ accepted (digestOf (stateBytes (h .result .clock .steps)
+      (moved world (h .result .clock .steps) (heldBy h))))
+  -- A carrier is shown between the state before the last step and the state; 'at n = 0, p is c'.
+  pub shown : (i : ℕ) → i < world .yard .b
+      → answer (shownOrder (h .result) (lentIn world h) i)
+      ≡ accepted (let n : ℕ = h .result .clock .steps in
+      let p : Carrier = carrier i (moved world (n - 1) (heldBy h)) in
+      let c : Carrier = carrier i (moved world n (heldBy h)) in
+      placeOf stepLength (p .x) (p .y) (c .x) (c .y) (h .result .clock .remainder))
+  -- The session and its buffers are sound.
+  pub sound : sound (h .result) (lentIn world h) ≡ true
+
+-- 'From opening on', of a session as in demand 3: the time equation, and the cut time 'from the
+-- history of accepted readings'.
+abbrev pub Time : ℕ → List Call → Handed → Type 0
+Time first calls h =
+    FromOpening stepLength first (acceptedAfter stepLength first (readingsOf calls))
+    (h .result .clock)
+
+-- These bytes are answered TAKEN.
+pub record Taken (world : World) (h : Handed) (bytes : List ℕ) : Type 0 where
+  pub session : Session
+  pub answer : deliveryLeaves world h bytes .answer ≡ accepted (taken session)
+
+-- Two sessions show the same, and it is that of demand 2.
+pub record Same (world : World) (h k : Handed) : Type 0 where
+  pub state : h .state ≡ k .state
+  pub rows : h .rows ≡ k .rows
+  pub log : h .log ≡ k .log
+  pub digest : answer (digestOrder (h .result) (lentIn world h))
+      ≡ answer (digestOrder (k .result) (lentIn world k))
+  pub demand2 : Demand2 world h
+
+-- Demand 3, of sessions on one world.
+pub record Demand3 (world : World) : Type 0 where
+  -- 'If at the end both have made the same number of steps and hold the same records, then state,
+  -- saved rows, log bytes and digest are equal, and are those of demand 2.'
+  pub converge : (first other : ℕ) (calls others : List Call) (h k : Handed)
+      → Reached world first calls h → Reached world other others k
+      → h .result .clock .steps ≡ k .result .clock .steps
+      → ((r : Record) → List·Memᴰ r (heldBy h) ↔ List·Memᴰ r (heldBy k))
+      → Same world h k
+  -- 'A record once taken and sent again is answered HELD and changes nothing', whatever came
+  -- between.
+  pub again : (first : ℕ) (calls between : List Call) (h later : Handed) (bytes : List ℕ)
+      → Reached world first calls h → Taken world h bytes
+      → run world h (delivery bytes ∷ between) ≡ later
+      → deliveryLeaves world later bytes
+      ≡ left (accepted (held (later .result))) (later .state) (later .rows) (later .log)
+  -- 'Two records for different places, delivered one right after the other and both taken, are both
+  -- taken in the other order', and end alike. (Both taken, their places do differ: `apart`.)
+  pub swap : (first : ℕ) (calls : List Call) (h : Handed) (a b : List ℕ)
+      → Reached world first calls h
+      → Taken world h a → Taken world (next world h (delivery a)) b
+      → Taken world h b × Taken world (next world h (delivery b)) a
+      × (run world h (delivery b ∷ delivery a ∷ []) ≡ run world h (delivery a ∷ delivery b ∷ []))
+  pub apart : (first : ℕ) (calls : List Call) (h : Handed) (a b : List ℕ)
+      → Reached world first calls h
+      → Taken world h a → Taken world (next world h (delivery a)) b
+      → recordOf a .step ≡ recordOf b .step → recordOf a .carrier ≢ recordOf b .carrier
+  -- 'Two lists of readings that begin at opening, with the same first and last, none refused and no
+  -- gap over 250,000 microseconds, give equal steps and remainder', whatever is delivered between.
+  pub grouping : (first : ℕ) (calls others : List Call) (h k : Handed)
+      → Reached world first calls h → Reached world first others k
+      → NoneRefused stepLength first (readingsOf calls)
+      → NoneRefused stepLength first (readingsOf others)
+      → NoLongGap first (readingsOf calls) → NoLongGap first (readingsOf others)
+      → lastOf first (readingsOf calls) ≡ lastOf first (readingsOf others)
+      → (h .result .clock .steps ≡ k .result .clock .steps)
+      × (h .result .clock .remainder ≡ k .result .clock .remainder)
+
+-- Demands 2 and 3, of every world.
+pub record Demands : Type 0 where
+  pub demand2 : (world : World) (first : ℕ) (calls : List Call) (h : Handed)
+      → Reached world first calls h → Demand2 world h
+  pub time : (world : World) (first : ℕ) (calls : List Call) (h : Handed)
+      → Reached world first calls h → Time first calls h
+  pub demand3 : (world : World) → Demand3 world
