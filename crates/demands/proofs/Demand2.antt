@@ -107,7 +107,8 @@ module _ (world : World) (opens : Opens world) (s : Session (model world)) (k : 
           (rowOf (stateWords world) (s .clock .steps - 1) (flatten (s .made .rows)))
           ≡ moved world (s .clock .steps - 1) (s .log)
       go true e =
-          let none : s .clock .steps ≡ s .clock .steps - 1 = omega (arith, eqb-true (s .clock .steps) 0 e) in
+          let none : s .clock .steps ≡ s .clock .steps - 1 =
+          omega (arith, eqb-true (s .clock .steps) 0 e) in
           state-is ∙ ap (λ m. moved world m (s .log)) none
       go false e =
           let some = eqb-false (s .clock .steps) 0 e in

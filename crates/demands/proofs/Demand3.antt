@@ -105,7 +105,8 @@ module _ (world : World) (opens : Opens world) where
 
   converge : (s u : Session (model world)) → Kept s → Kept u → ModelReached s → ModelReached u
       → s .clock .steps ≡ u .clock .steps
-      → ((r : Record) → List·Memᴰ r (heldBy (handed world s)) ↔ List·Memᴰ r (heldBy (handed world u)))
+      → ((r : Record)
+      → List·Memᴰ r (heldBy (handed world s)) ↔ List·Memᴰ r (heldBy (handed world u)))
       → Same world (handed world s) (handed world u)
   converge s u k j p q steps same =
       let records : (r : Record) → List·Memᴰ r (s .log) ↔ List·Memᴰ r (u .log) =

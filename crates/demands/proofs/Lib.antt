@@ -1,6 +1,15 @@
--- The model of `course` on a yard's world, and the proofs of the demands by it.
+-- The demands, proved by the model `course`.
+--   Model       a world that opening accepts, as a lawful world of the model
+--   Ties        the words of a session of the model, and what calls leave of them
+--   Sessions    every session as in demand 3 has the words of one of the model
+--   Demand1     each contract allows one outcome, and gives each number exactly when
+--   Demand2     the state, its rows, its log, its digest, its replay
+--   Demand3     two sessions of one world
+--   Statements  the statements of specs/Statements.antt
 pub mod Model
 pub mod Ties
 pub mod Sessions
+pub mod Demand1
 pub mod Demand2
 pub mod Demand3
+pub mod Statements

@@ -80,7 +80,8 @@ module _ (world : World) (opens : Opens world) (s : Session (model world)) (k : 
   same-records = buffer-records (k .within) (k .few)
 
   -- Row t mod 64, in the words.
-  pub same-row : (t : ℕ) → rowOf (stateWords world) t (flatten (s .made .rows)) ≡ modelRow t (s .made)
+  pub same-row : (t : ℕ)
+      → rowOf (stateWords world) t (flatten (s .made .rows)) ≡ modelRow t (s .made)
   unfolding rowOf
   same-row t = sym (flat-row fits t)
 
@@ -120,7 +121,8 @@ abbrev pub mapped : {A B : Type 0} → (A → B) → Answer A → Answer B
 mapped f (refused number) = refused number
 mapped f (accepted a) = accepted (f a)
 
--- A sound session is answered by the first part of the order; where it gives something, by the rest.
+-- A sound session is answered by the first part of the order, or where it gives something, by the
+-- rest.
 goes-alike : {A B C : Type 0} (f : B → C) {ok : Bool} (first : Order A) (rest : A → Order B)
     (other : A → Order C) → ok ≡ true
     → ((a : A) → answer (other a) ≡ mapped f (answer (rest a)))
@@ -158,7 +160,8 @@ module _ (world : World) (opens : Opens world) (s : Session (model world)) (k : 
       → backWords (handed world s .result) (lentIn world (handed world s)) log t
       ≡ courseWords world opens log (goBack log t (s .clock .steps) (s .made))
   same-back log t =
-      let made : Made (model world) = record { state = modelRow t (s .made); rows = s .made .rows } in
+      let made : Made (model world) =
+      record { state = modelRow t (s .made); rows = s .made .rows } in
       let f = fits world opens s k in
       let fitting : Fits (words world) made =
       record { state = row-long world opens s k t; rows = f .rows; many = f .many } in
@@ -204,7 +207,9 @@ module _ (world : World) (opens : Opens world) (s : Session (model world)) (k : 
   -- The row to be brought back, in the words and in the model.
   same-good : (r : Record)
       → rowWords (handed world s .result) (lentIn world (handed world s)) r ≡ rowGood s r
-  same-good r = rw (same-row world opens s k (r .step), eq-eqb _ _ (row-long world opens s k (r .step)))
+  same-good r =
+      let t = r .step in
+      rw (same-row world opens s k t, eq-eqb _ _ (row-long world opens s k t))
 
   -- What the model gives, as the words of a reading's answer and of a delivery's. (Each map has
   -- cases that its call doesn't give.)
@@ -248,6 +253,7 @@ module _ (world : World) (opens : Opens world) (s : Session (model world)) (k : 
   unfolding deliverOrder orderOf
   same-delivery bytes =
       goes-alike asDelivered (readOrder (world .yard .b) bytes)
-      (λ r. placeOrder s r (leverAt (r .step) (r .carrier) (s .log))) _ (words-sound world opens s k)
+      (λ r. placeOrder s r (leverAt (r .step) (r .carrier) (s .log))) _
+      (words-sound world opens s k)
       (λ r.
       rw (same-records world opens s k) (same-place r (leverAt (r .step) (r .carrier) (s .log))))

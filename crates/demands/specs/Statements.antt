@@ -12,14 +12,18 @@ use Rattle.basis.specs.Order.{Answer, refused, accepted, Order, answer, First}
 use Rattle.record.specs.Bytes.{recordOf}
 use Rattle.record.specs.Log.{ascending}
 use Rattle.record.specs.Held.{bufferOf}
+use Rattle.record.specs.Examples.{ExampleL}
 use Rattle.record.specs.declared.bytes.Record.{Record}
 use Rattle.clock.specs.History.{acceptedAfter, lastOf, NoneRefused, NoLongGap}
 use Rattle.clock.specs.Statements.{FromOpening}
+use Rattle.clock.specs.Examples.{ExampleA, ExampleB, ExampleC, ExampleD}
 use Rattle.digest.specs.Fnv.{digestOf}
 use Rattle.digest.specs.Words.{stateBytes}
 use Rattle.shown.specs.Answer.{placeOf, answerOf}
 use Rattle.shown.specs.declared.Place.{Place}
 use Rattle.shown.specs.declared.Shown.{Shown}
+use Rattle.yard.specs.Examples.{ExampleE, ExampleF, ExampleG, ExampleH, ExampleI, ExampleJ}
+use Rattle.yard.specs.Examples.{ExampleK}
 use Rattle.yard.specs.declared.world.Yard.{Yard}
 use Rattle.yard.specs.declared.carrier.Carrier.{Carrier}
 use Rattle.fleet.specs.State.{World, stateWords, carrier}
@@ -29,6 +33,7 @@ use Rattle.session.specs.declared.Session.{Session}
 use Rattle.session.specs.declared.Running.{Running}
 use Rattle.session.specs.declared.Delivered.{Delivered}
 use Rattle.session.specs.declared.Replayed.{Replayed}
+use Rattle.session.specs.declared.Replayed.the-variants as replayed
 use Rattle.session.specs.declared.Digested.{Digested}
 use Rattle.session.specs.Lent.{Lent, Left, left, Made, leaves}
 use Rattle.session.specs.Sound.{sound}
@@ -37,6 +42,69 @@ use Rattle.session.specs.Calls.{shownOrder, taken, held}
 use Rattle.session.specs.Answers.{runningOf, deliveredOf, digestedOf, replayLeft, replay}
 use Rattle.demands.specs.Handed.{Handed, lentIn, deliveryLeaves, next, run, Reached}
 use Rattle.demands.specs.Handed.{heldBy, moved}
+
+-- 'any two outcomes allowed by it coincide': two outcomes of an entry, each as its contract has it.
+-- A lent slice that an entry can't write is no part of its outcome.
+pub record Determined : Type 0 where
+  -- `Session::open`
+  pub opening : (yard : Yard) (reading : ℕ) (l : Lent) (a b : Running)
+      (state state′ rows rows′ : List ℤ) (log log′ : List ℕ)
+      → left (runningOf a) state rows log ≡ leaves l (answer (openOrder yard reading l))
+      → left (runningOf b) state′ rows′ log′ ≡ leaves l (answer (openOrder yard reading l))
+      → (a ≡ b) × (state ≡ state′) × (rows ≡ rows′) × (log ≡ log′)
+  -- `Session::reading`
+  pub reading : (session : Session) (t : ℕ) (l : Lent) (a b : Running)
+      (state state′ rows rows′ : List ℤ)
+      → left (runningOf a) state rows (l .log) ≡ leaves l (answer (readingOrder session l t))
+      → left (runningOf b) state′ rows′ (l .log) ≡ leaves l (answer (readingOrder session l t))
+      → (a ≡ b) × (state ≡ state′) × (rows ≡ rows′)
+  -- `Session::deliver`
+  pub deliver : (session : Session) (bytes : List ℕ) (l : Lent) (a b : Delivered)
+      (state state′ rows rows′ : List ℤ) (log log′ : List ℕ)
+      → left (deliveredOf a) state rows log ≡ leaves l (answer (deliverOrder session l bytes))
+      → left (deliveredOf b) state′ rows′ log′ ≡ leaves l (answer (deliverOrder session l bytes))
+      → (a ≡ b) × (state ≡ state′) × (rows ≡ rows′) × (log ≡ log′)
+  -- `replay`
+  pub replay : (before : List ℤ) (order : Order (List ℤ)) (a b : Replayed) (state state′ : List ℤ)
+      → replayLeft a state ≡ replay before (answer order)
+      → replayLeft b state′ ≡ replay before (answer order)
+      → (a ≡ b) × (state ≡ state′)
+  -- `digest`
+  pub digest : (session : Session) (l : Lent) (a b : Digested)
+      → digestedOf a ≡ answer (digestOrder session l)
+      → digestedOf b ≡ answer (digestOrder session l)
+      → a ≡ b
+  -- `shown`
+  pub shown : (session : Session) (i : ℕ) (l : Lent) (a b : Shown)
+      → answerOf a ≡ answer (shownOrder session l i)
+      → answerOf b ≡ answer (shownOrder session l i)
+      → a ≡ b
+
+-- 'each given exactly when its rule says, and a refusal changes no session and no buffer': of each
+-- entry, a number comes back, and all is as it was, if and only if a test with this number is the
+-- first of document 01's order that fails.
+pub record ExactlyWhen : Type 0 where
+  pub opening : (yard : Yard) (reading : ℕ) (l : Lent) (n : ℕ)
+      → (leaves l (answer (openOrder yard reading l))
+      ≡ left (refused n) (l .state) (l .rows) (l .log))
+      ↔ First n (openOrder yard reading l)
+  pub reading : (session : Session) (t : ℕ) (l : Lent) (n : ℕ)
+      → (leaves l (answer (readingOrder session l t))
+      ≡ left (refused n) (l .state) (l .rows) (l .log))
+      ↔ First n (readingOrder session l t)
+  pub deliver : (session : Session) (bytes : List ℕ) (l : Lent) (n : ℕ)
+      → (leaves l (answer (deliverOrder session l bytes))
+      ≡ left (refused n) (l .state) (l .rows) (l .log))
+      ↔ First n (deliverOrder session l bytes)
+  pub replay : (yard : Yard) (steps : ℕ) (cells : List ℕ) (boxes state : List ℤ) (log : List ℕ)
+      (n : ℕ)
+      → (replay state (answer (replayOrder yard steps cells boxes state log))
+      ≡ replayLeft (replayed.Refused n) state)
+      ↔ First n (replayOrder yard steps cells boxes state log)
+  pub digest : (session : Session) (l : Lent) (n : ℕ)
+      → (answer (digestOrder session l) ≡ refused n) ↔ First n (digestOrder session l)
+  pub shown : (session : Session) (i : ℕ) (l : Lent) (n : ℕ)
+      → (answer (shownOrder session l i) ≡ refused n) ↔ First n (shownOrder session l i)
 
 -- Demand 2, of a session as in demand 3.
 pub record Demand2 (world : World) (h : Handed) : Type 0 where
@@ -133,10 +201,43 @@ pub record Demand3 (world : World) : Type 0 where
       → (h .result .clock .steps ≡ k .result .clock .steps)
       × (h .result .clock .remainder ≡ k .result .clock .remainder)
 
--- Demands 2 and 3, of every world.
+-- 'Those with a letter are proved, as a single table under a single statement, of the definitions.'
+pub record Lettered : Type 0 where
+  -- 'remainder 0, gap 19,999: 0 steps, remainder 19,999'
+  pub a : ExampleA
+  -- 'gap 20,000: 1 step, remainder 0'
+  pub b : ExampleB
+  -- 'remainder 19,999, gap 250,000: 13 steps, remainder 9,999'
+  pub c : ExampleC
+  -- 'remainder 0, gap 250,001: 12 steps, remainder 10,000, cut 1'
+  pub d : ExampleD
+  -- 'from rest, lever 1: u 12, x grows by 12'
+  pub e : ExampleE
+  -- 'u 195, lever 1: 200'
+  pub f : ExampleF
+  -- 'brake on -3 gives -1, on 1 gives 0'
+  pub g : ExampleG
+  -- 'practice yard, carrier at (500, 256), u 0, lever 1: x 512, u 12'
+  pub h : ExampleH
+  -- 'next step: x 512, u 0'
+  pub i : ExampleI
+  -- 'carrier at (5, 256), u 0, lever 5: x 0, u 0'
+  pub j : ExampleJ
+  -- '3 by 3 yard ..; 256 by 256 carrier at rest at (256, 256), lever 2: (264, 256), u 8, v 0'
+  pub k : ExampleK
+  -- 'step 258, carrier 3, lever 9 is bytes 2, 1, 0, 0, 3, 9, 0, 0'
+  pub l : ExampleL
+
+-- All of it.
 pub record Demands : Type 0 where
+  -- Demand 1, of any bytes, numbers, readings and buffers.
+  pub determined : Determined
+  pub exactlyWhen : ExactlyWhen
+  -- Demands 2 and 3, of sessions from opening on, on every world.
   pub demand2 : (world : World) (first : ℕ) (calls : List Call) (h : Handed)
       → Reached world first calls h → Demand2 world h
   pub time : (world : World) (first : ℕ) (calls : List Call) (h : Handed)
       → Reached world first calls h → Time first calls h
   pub demand3 : (world : World) → Demand3 world
+  -- 'Examples to hold against it'
+  pub lettered : Lettered

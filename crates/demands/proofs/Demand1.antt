@@ -1,0 +1,113 @@
+-- Demand 1: each entry's contract allows one outcome, and gives each number exactly when.
+use Prim.Native.Nat.{ℕ}
+use mathlib.Core.Path.{_≡_, refl, sym, ap, _∙_}
+use mathlib.Core.Logic.{_↔_}
+use mathlib.Core.List.{List}
+use lib.IntN.{ℤ}
+use Rattle.basis.specs.Order.{Answer, refused, accepted, Order, answer, First}
+use Rattle.basis.proofs.Order.{apart, exactly-number}
+use Rattle.shown.proofs.Statements.{determined as shownDetermined}
+use Rattle.session.specs.declared.Session.{Session}
+use Rattle.session.specs.declared.Running.{Running}
+use Rattle.session.specs.declared.Running.the-variants as running
+use Rattle.session.specs.declared.Delivered.{Delivered}
+use Rattle.session.specs.declared.Delivered.the-variants as delivered
+use Rattle.session.specs.declared.Replayed.{Replayed}
+use Rattle.session.specs.declared.Replayed.the-variants as replayed
+use Rattle.session.specs.declared.Digested.{Digested}
+use Rattle.session.specs.declared.Digested.the-variants as digested
+use Rattle.session.specs.Lent.{Lent, Left, left, Made, leaves}
+use Rattle.session.specs.Answers.{runningOf, deliveredOf, digestedOf, replayLeft, replay}
+use Rattle.demands.specs.Statements.{Determined, ExactlyWhen}
+
+-- No two answers of the code stand for one answer.
+running-one : (a b : Running) → runningOf a ≡ runningOf b → a ≡ b
+running-one (running.Open s) (running.Open t) e = cc
+running-one (running.Open s) (running.Refused n) e = apart (sym e)
+running-one (running.Refused m) (running.Open t) e = apart e
+running-one (running.Refused m) (running.Refused n) e = cc
+
+delivered-one : (a b : Delivered) → deliveredOf a ≡ deliveredOf b → a ≡ b
+delivered-one (delivered.Taken s) (delivered.Taken t) e = cc
+delivered-one (delivered.Taken s) (delivered.Held t) e = cc
+delivered-one (delivered.Taken s) (delivered.Refused n) e = apart (sym e)
+delivered-one (delivered.Held s) (delivered.Taken t) e = cc
+delivered-one (delivered.Held s) (delivered.Held t) e = cc
+delivered-one (delivered.Held s) (delivered.Refused n) e = apart (sym e)
+delivered-one (delivered.Refused m) (delivered.Taken t) e = apart e
+delivered-one (delivered.Refused m) (delivered.Held t) e = apart e
+delivered-one (delivered.Refused m) (delivered.Refused n) e = cc
+
+digested-one : (a b : Digested) → digestedOf a ≡ digestedOf b → a ≡ b
+digested-one (digested.Value v) (digested.Value w) e = cc
+digested-one (digested.Value v) (digested.Refused n) e = apart (sym e)
+digested-one (digested.Refused m) (digested.Value w) e = apart e
+digested-one (digested.Refused m) (digested.Refused n) e = cc
+
+-- What two equal outcomes have in common.
+module _ {A : Type 0} {a b : Answer A} {state state′ rows rows′ : List ℤ} {log log′ : List ℕ}
+    (what : Left A) (e : left a state rows log ≡ what) (f : left b state′ rows′ log′ ≡ what) where
+  one-answer : a ≡ b
+  one-answer = ap (λ l. l .answer) (e ∙ sym f)
+
+  one-state : state ≡ state′
+  one-state = ap (λ l. l .state) (e ∙ sym f)
+
+  one-rows : rows ≡ rows′
+  one-rows = ap (λ l. l .rows) (e ∙ sym f)
+
+  one-log : log ≡ log′
+  one-log = ap (λ l. l .log) (e ∙ sym f)
+
+pub determined : Determined
+determined =
+    record {
+      opening = λ yard reading l a b s t r q f g x y.
+          (running-one a b (one-answer _ x y), one-state _ x y, one-rows _ x y, one-log _ x y);
+      reading = λ session t l a b s u r q x y.
+          (running-one a b (one-answer _ x y), one-state _ x y, one-rows _ x y);
+      deliver = λ session bytes l a b s t r q f g x y.
+          (delivered-one a b (one-answer _ x y), one-state _ x y, one-rows _ x y, one-log _ x y);
+      replay = λ before order a b s t x y.
+          (ap (λ l. l .answer) (x ∙ sym y), ap (λ l. l .state) (x ∙ sym y));
+      digest = λ session l a b x y. digested-one a b (x ∙ sym y);
+      shown = λ session i l a b x y. shownDetermined .answer a b (x ∙ sym y);
+    }
+
+-- A refusal leaves its number and all as it was.
+refused-left : {A : Type 0} (l : Lent) (order : Order (Made A)) (n : ℕ)
+    → (leaves l (answer order) ≡ left (refused n) (l .state) (l .rows) (l .log)) ↔ First n order
+refused-left {A} l order n = (
+  λ e. exactly-number order n .0 (go (answer order) e),
+  λ f. ap (leaves l) (exactly-number order n .1 f),
+)
+  where
+    go : (a : Answer (Made A)) → leaves l a ≡ left (refused n) (l .state) (l .rows) (l .log)
+        → a ≡ refused n
+    go (refused m) e =
+        let same : m ≡ n = cc (ap (λ x. x .answer) e) in
+        ap refused same
+    go (accepted m) e = apart (sym (ap (λ x. x .answer) e))
+
+replay-left : (state : List ℤ) (order : Order (List ℤ)) (n : ℕ)
+    → (replay state (answer order) ≡ replayLeft (replayed.Refused n) state) ↔ First n order
+replay-left state order n = (
+  λ e. exactly-number order n .0 (go (answer order) e),
+  λ f. ap (replay state) (exactly-number order n .1 f),
+)
+  where
+    go : (a : Answer (List ℤ)) → replay state a ≡ replayLeft (replayed.Refused n) state
+        → a ≡ refused n
+    go (refused m) e = ap refused (cc (ap (λ x. x .answer) e))
+    go (accepted m) e = cc (ap (λ x. x .answer) e)
+
+pub exactlyWhen : ExactlyWhen
+exactlyWhen =
+    record {
+      opening = λ yard reading l. refused-left l _;
+      reading = λ session t l. refused-left l _;
+      deliver = λ session bytes l. refused-left l _;
+      replay = λ yard steps cells boxes state log. replay-left state _;
+      digest = λ session l. exactly-number _;
+      shown = λ session i l. exactly-number _;
+    }
