@@ -4,7 +4,7 @@ ghost use mathlib.Core.Path.{_≡_};
 ghost use Rattle.basis.specs.Order.{answer};
 ghost use Rattle.session.specs.Answers.{runningOf};
 ghost use Rattle.session.specs.Calls.{openOrder};
-ghost use Rattle.session.specs.Lent.{leaves, left, lent};
+ghost use Rattle.session.specs.Lent.{Lent, leaves, left, lent};
 use super::Running;
 use super::Session;
 use super::sound::has_room;
@@ -31,13 +31,11 @@ impl Session {
         log: &mut [u8],
     ) -> Running
         ensures opened { λ r. ⌜
+            (let l : Lent =
+            lent (now (cells .entry)) (now (boxes .entry)) (now (state .entry))
+            (now (rows .entry)) (now (log .entry)) in
             left (runningOf r) (now (state .exit)) (now (rows .exit)) (now (log .exit))
-            ≡ leaves
-            (lent (now (cells .entry)) (now (boxes .entry))
-            (now (state .entry)) (now (rows .entry)) (now (log .entry)))
-            (answer (openOrder yard reading
-            (lent (now (cells .entry)) (now (boxes .entry))
-            (now (state .entry)) (now (rows .entry)) (now (log .entry))))) ⌝ }
+            ≡ leaves l (answer (openOrder yard reading l))) ⌝ }
     {
         if !ranges_hold(yard) {
             return Running::Refused(Number::WORLD);
