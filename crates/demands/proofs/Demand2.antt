@@ -23,6 +23,7 @@ use Rattle.digest.specs.Words.{stateBytes}
 use Rattle.shown.specs.Answer.{placeOf}
 use Rattle.yard.specs.declared.carrier.Carrier.{Carrier}
 use Rattle.fleet.specs.State.{World, stateWords, carrier, soundState}
+use Rattle.fleet.specs.Step.{stepAt}
 use Rattle.fleet.specs.Run.{run, rowOf}
 use Rattle.course.specs.World.{after}
 use Rattle.course.specs.Session.{Session}
@@ -41,7 +42,9 @@ pub moved-after : (world : World) (n : ℕ) (log : List Record)
     → after (model world) n log ≡ moved world n log
 unfolding after run
 moved-after world zero log = refl
-moved-after world (suc n) log = rw (zero-add n, moved-after world n log)
+moved-after world (suc n) log =
+    ap (stepAt world log n) (moved-after world n log)
+    ∙ ap (λ t. stepAt world log t (moved world n log)) (sym (zero-add n))
 
 module _ (world : World) (opens : Opens world) (s : Session (model world)) (k : Kept s) where
   state-is : s .made .state ≡ moved world (s .clock .steps) (s .log)
