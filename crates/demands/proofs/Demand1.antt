@@ -85,7 +85,8 @@ refused-left {A} l order n = (
     go : (a : Answer (Made A)) → leaves l a ≡ left (refused n) (l .state) (l .rows) (l .log)
         → a ≡ refused n
     go (refused m) e =
-        let same : m ≡ n = cc (ap (λ x. x .answer) e) in
+        let numbers : _≡_ {A = Answer A} (refused m) (refused n) = ap (λ x. x .answer) e in
+        let same : m ≡ n = cc in
         ap refused same
     go (accepted m) e = apart (sym (ap (λ x. x .answer) e))
 

@@ -28,7 +28,8 @@ use Rattle.fleet.specs.Run.{run, rowOf}
 use Rattle.course.specs.World.{after}
 use Rattle.course.specs.Session.{Session}
 use Rattle.course.proofs.Rows.{row-saved, row-blank}
-use Rattle.course.proofs.Kept.{Kept, good-after}
+use Rattle.course.specs.Calls.{reading, delivery}
+use Rattle.course.proofs.Kept.{Kept, good-after, no-fault}
 use Rattle.course.proofs.Words.{flat-length}
 use Rattle.session.specs.Sound.{worldRoom}
 use Rattle.session.specs.Calls.{replayOrder, digestOrder, shownOrder, shownOf, previous}
@@ -36,6 +37,8 @@ use Rattle.demands.specs.Handed.{Handed, lentIn, heldBy, moved}
 use Rattle.demands.specs.Statements.{Demand2}
 use Rattle.demands.proofs.Model.{Opens, model, lawful, fitting-fits}
 use Rattle.demands.proofs.Ties.{handed, fits, same-records, same-row, words-sound}
+use Rattle.demands.proofs.Ties.{asRead, asDelivered, same-reading, same-delivery}
+use Rattle.demands.proofs.Ties.{same-refusal}
 
 -- The model's state after n steps is the start moved n times.
 pub moved-after : (world : World) (n : ℕ) (log : List Record)
@@ -147,4 +150,11 @@ module _ (world : World) (opens : Opens world) (s : Session (model world)) (k : 
         digest = rw log (digests ∙ rw state-is);
         shown = λ i below. rw log (shows i below);
         sound = words-sound world opens s k;
+        reads = λ t e.
+            no-fault (lawful world opens) k (reading t)
+            (same-refusal (asRead world opens s k) _ (sym (same-reading world opens s k t) ∙ e));
+        delivers = λ bytes e.
+            no-fault (lawful world opens) k (delivery bytes)
+            (same-refusal (asDelivered world opens s k) _
+            (sym (same-delivery world opens s k bytes) ∙ e));
       }

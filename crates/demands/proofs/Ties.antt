@@ -14,7 +14,7 @@ use lib.ListN.{length, take, drop, length-drop}
 use lib.Seq.{length-take-le}
 use Rattle.basis.specs.Numbers.{FULL, LATE, FAULT, mostRecords}
 use Rattle.basis.specs.Order.{Answer, refused, accepted, Order, check, give, answer, andThen}
-use Rattle.basis.proofs.Order.{passes, stops, goes-on}
+use Rattle.basis.proofs.Order.{passes, stops, goes-on, apart}
 use Rattle.basis.proofs.Tests.{and-both}
 use Rattle.record.specs.Bytes.{readOrder}
 use Rattle.record.specs.Held.{bufferOf, leverAt, putIn}
@@ -120,6 +120,14 @@ module _ (world : World) (opens : Opens world) (s : Session (model world)) (k : 
 abbrev pub mapped : {A B : Type 0} → (A → B) → Answer A → Answer B
 mapped f (refused number) = refused number
 mapped f (accepted a) = accepted (f a)
+
+-- A refusal stays one, and was one.
+pub same-refusal : {A B : Type 0} (f : A → B) (a : Answer A) {n : ℕ} → mapped f a ≡ refused n
+    → a ≡ refused n
+same-refusal f (refused m) {n} e =
+    let same : m ≡ n = cc in
+    ap refused same
+same-refusal f (accepted a) e = apart (sym e)
 
 -- A sound session is answered by the first part of the order, or where it gives something, by the
 -- rest.

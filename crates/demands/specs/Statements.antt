@@ -7,7 +7,7 @@ use mathlib.Core.Bool.{true}
 use mathlib.Core.List.{List, [], _∷_, List·Memᴰ}
 use lib.IntN.{ℤ, pos}
 use lib.ListN.{length, take, replicate}
-use Rattle.basis.specs.Numbers.{CARRIER, stepLength, mostRecords}
+use Rattle.basis.specs.Numbers.{FAULT, stepLength, mostRecords}
 use Rattle.basis.specs.Order.{Answer, refused, accepted, Order, answer, First}
 use Rattle.record.specs.Bytes.{recordOf}
 use Rattle.record.specs.Log.{ascending}
@@ -139,8 +139,12 @@ pub record Demand2 (world : World) (h : Handed) : Type 0 where
       let p : Carrier = carrier i (moved world (n - 1) (heldBy h)) in
       let c : Carrier = carrier i (moved world n (heldBy h)) in
       placeOf stepLength (p .x) (p .y) (c .x) (c .y) (h .result .clock .remainder))
-  -- The session and its buffers are sound.
+  -- The session and its buffers are sound,
   pub sound : sound (h .result) (lentIn world h) ≡ true
+  -- and no reading and no delivery is answered 14.
+  pub reads : (t : ℕ) → answer (readingOrder (h .result) (lentIn world h) t) ≢ refused FAULT
+  pub delivers : (bytes : List ℕ)
+      → answer (deliverOrder (h .result) (lentIn world h) bytes) ≢ refused FAULT
 
 -- 'From opening on', of a session as in demand 3: the time equation, and the cut time 'from the
 -- history of accepted readings'.
