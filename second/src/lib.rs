@@ -7,6 +7,7 @@
 
 pub mod act;
 pub mod coverage;
+pub mod desk;
 pub mod fast;
 pub mod guarded;
 #[cfg(feature = "library")]
@@ -30,4 +31,10 @@ pub fn others() -> Vec<&'static dyn Station> {
         #[cfg(feature = "library")]
         &library::Library,
     ]
+}
+
+/// Copies of the model with a bug in each, with the sentence of document 01 that it breaks.
+#[cfg(feature = "plants")]
+pub mod plants {
+    include!(concat!(env!("OUT_DIR"), "/plants.rs"));
 }

@@ -36,15 +36,14 @@ impl<'s> Pair<'s> {
     }
 
     fn compare(&self, answer: &Answer, other: &Answer, before: &Buffers) -> Result<(), Difference> {
-        let (model, name) = (self.model.name(), self.other.name());
         if answer != other {
-            return Err(format!("{model} answers {answer:?}, {name} {other:?}"));
+            return Err(format!("the model answers {answer:?}, the other {other:?}"));
         }
         if let Some(slice) = self.other.differs(&self.model.buffers()) {
-            return Err(format!("{model} and {name} leave other words in {slice}"));
+            return Err(format!("the words that they leave differ in {slice}"));
         }
         if !self.other.canaries_are_whole() {
-            return Err(format!("{name} has written before a slice"));
+            return Err("a byte before a slice was written".to_string());
         }
         if is_refusal(answer.number) && (self.model.buffers() != *before || !answer.out_as_before) {
             return Err(format!("refusal {} has changed a slice", answer.number));

@@ -3,14 +3,21 @@
 use crate::act::{Act, Buffers, Slice};
 use crate::guarded::Guarded;
 use crate::station::{Lent, Station};
+use std::fmt;
 
 /// What a call gave: its number, and the words of its `out` slice (f64 by bit pattern).
-#[derive(Clone, Debug, PartialEq)]
+#[derive(Clone, PartialEq)]
 pub struct Answer {
     pub number: u32,
     pub out: Vec<u64>,
     /// No word of the `out` slice has changed.
     pub out_as_before: bool,
+}
+
+impl fmt::Debug for Answer {
+    fn fmt(&self, f: &mut fmt::Formatter) -> fmt::Result {
+        write!(f, "{} {:?}", self.number, self.out)
+    }
 }
 
 /// What the words of an `out` slice are before a call, cut to their width.
@@ -68,10 +75,6 @@ impl<'s> Side<'s> {
             session: Guarded::new(&[]),
             kept: None,
         }
-    }
-
-    pub fn name(&self) -> &'static str {
-        self.station.name()
     }
 
     /// A copy of what is lent.

@@ -313,7 +313,8 @@ impl<'s> Wander<'s> {
         let mut log = match self.random.below(3) {
             0 => {
                 let records = self.random.pick(&[0, 1, 2, 3, 40, 2047, 2048, 2049]);
-                self.sound_log(records)
+                let carriers = self.random.pick(&[self.carriers(), 32]);
+                self.sound_log(records, carriers)
             }
             _ => self.pair.held().to_vec(),
         };
@@ -333,9 +334,8 @@ impl<'s> Wander<'s> {
         log
     }
 
-    /// Records in ascending order around the steps made, for the session's carriers.
-    fn sound_log(&mut self, records: u64) -> Vec<u8> {
-        let carriers = self.carriers();
+    /// Records in ascending order around the steps made, for carriers below this number.
+    fn sound_log(&mut self, records: u64, carriers: u64) -> Vec<u8> {
         let stride = self.random.pick(&[1, 1, 2, 7]);
         let most = 180_000 * carriers - 1 - records * stride;
         let made = self.pair.session(word::STEPS).min(180_000);
@@ -382,7 +382,7 @@ impl<'s> Wander<'s> {
     fn fill_log(&mut self) -> Result<(), Difference> {
         let any = self.random.below(2049);
         let held = self.random.pick(&[any, 0, 1, 2047, 2048, 2048]);
-        let mut log = self.sound_log(held);
+        let mut log = self.sound_log(held, self.carriers());
         log.resize(16_384, 0);
         let words = log.into_iter().map(u64::from).collect();
         self.act(Act::Put { slice: Slice::Log, at: 0, words })?;
