@@ -4,9 +4,8 @@
    lever records, late records by going back, and replay of a log.  Document 01
    decides what every call does; this file says how C calls it.
 
-   Every function ends for any numbers and any bytes, allocates nothing and
-   keeps nothing between calls: all that lasts is in the slices that the caller
-   lends.
+   Every function ends for any numbers and any bytes, and keeps nothing between
+   calls: all that lasts is in the slices that the caller lends.
 
    Slices.  A slice is a pointer and the number of its elements.  The pointer
    is never null and is aligned for its type, also where the length is 0 (then

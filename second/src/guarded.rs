@@ -92,6 +92,22 @@ mod tests {
         }
     }
 
+    /// The test runs itself in another process, which has to be stopped by a signal.
+    #[test]
+    fn reading_past_the_end_stops_the_process() {
+        use std::os::unix::process::ExitStatusExt;
+        const SIGSEGV: i32 = 11;
+        const NAME: &str = "guarded::tests::reading_past_the_end_stops_the_process";
+        if std::env::var_os("READ_PAST_THE_END").is_some() {
+            let buffer = Guarded::new(&[1u8, 2, 3]);
+            std::hint::black_box(unsafe { buffer.as_ptr().add(3).read_volatile() });
+            return;
+        }
+        let mut test = std::process::Command::new(std::env::current_exe().unwrap());
+        let ended = test.args(["--exact", NAME]).env("READ_PAST_THE_END", "1").output().unwrap();
+        assert_eq!(ended.status.signal(), Some(SIGSEGV));
+    }
+
     #[test]
     fn canary_shows_a_write_before_the_start() {
         let buffer = Guarded::new(&[1u8, 2, 3]);

@@ -95,9 +95,10 @@ impl<'s> Wander<'s> {
     /// Any words in slices of any lengths, and any numbers.
     fn hostile(&mut self) -> Result<(), Difference> {
         for _ in 0..12 {
-            let buffers = self.any_buffers();
+            let (shape, buffers) = self.any_buffers();
             self.act(Act::Lend(buffers))?;
-            let yard = Shape { w: self.any_u32(), h: self.any_u32(), b: self.any_u32() };
+            let any = Shape { w: self.any_u32(), h: self.any_u32(), b: self.any_u32() };
+            let yard = self.random.pick(&[shape, any]);
             let reading = self.any_word();
             self.act(Act::Open { yard, reading })?;
             self.act(Act::Reading(reading))?;
@@ -125,20 +126,23 @@ impl<'s> Wander<'s> {
         (0..self.random.below(most + 1)).map(|_| self.any_word() as u8).collect()
     }
 
-    fn any_buffers(&mut self) -> Buffers {
-        let world = World::random(&mut self.random).lend();
+    /// A shape, and slices of which each has the length for it or another.
+    fn any_buffers(&mut self) -> (Shape, Buffers) {
+        let world = World::random(&mut self.random);
+        let right = world.lend();
         let mut words = |right: usize| {
-            let len = if self.random.one_in(2) { right as u64 } else { self.random.below(40) };
+            let len = if self.random.one_in(5) { self.random.below(40) } else { right as u64 };
             (0..len).map(|_| self.any_word()).collect::<Vec<u64>>()
         };
-        Buffers {
-            cells: words(world.cells.len()).iter().map(|&w| w as u8).collect(),
-            boxes: words(world.boxes.len()).iter().map(|&w| w as i32).collect(),
-            state: words(world.state.len()).iter().map(|&w| w as i32).collect(),
-            rows: words(world.rows.len()).iter().map(|&w| w as i32).collect(),
-            log: words(world.log.len()).iter().map(|&w| w as u8).collect(),
+        let buffers = Buffers {
+            cells: words(right.cells.len()).iter().map(|&w| w as u8).collect(),
+            boxes: words(right.boxes.len()).iter().map(|&w| w as i32).collect(),
+            state: words(right.state.len()).iter().map(|&w| w as i32).collect(),
+            rows: words(right.rows.len()).iter().map(|&w| w as i32).collect(),
+            log: words(right.log.len()).iter().map(|&w| w as u8).collect(),
             session: words(word::COUNT),
-        }
+        };
+        (world.shape, buffers)
     }
 
     fn first_reading(&mut self) -> u64 {
@@ -518,17 +522,18 @@ impl<'s> Wander<'s> {
         }
     }
 
-    /// A clock whose time equation fails by one, or holds only if it wraps.
+    /// A clock whose time equation fails, or holds only if it wraps or beyond a limit.
     fn damage_clock(&mut self) -> Result<(), Difference> {
         let [first, last, remainder, cut, steps] =
             [3, 4, 5, 6, 7].map(|word| self.pair.session(word));
         let later = last.saturating_add(1 + self.random.below(1_000_000));
         let passed = steps.wrapping_mul(20_000).wrapping_add(remainder);
         let wrapped = last.wrapping_sub(later).wrapping_sub(passed);
-        let words = match self.random.below(4) {
+        let words = match self.random.below(5) {
             0 => vec![first, last.saturating_add(1), remainder, cut, steps],
             1 => vec![first, last, remainder + 20_000, cut, steps.wrapping_sub(1)],
             2 => vec![first, last, remainder, cut.wrapping_add(20_000), steps.wrapping_sub(1)],
+            3 => vec![0, 20_000 * 180_001, 0, 0, 180_001],
             _ => vec![later, last, remainder, wrapped, steps],
         };
         self.act(Act::Put { slice: Slice::Session, at: word::FIRST, words })

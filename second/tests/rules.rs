@@ -102,6 +102,51 @@ fn rule_14_time_equation_does_not_wrap() {
 }
 
 #[test]
+fn rule_14_limits_of_the_clock() {
+    for other in others() {
+        let mut desk = practice(other);
+        desk.put(Slice::Session, word::FIRST, &[0, 20_000 * 180_001, 0, 0, 180_001]);
+        assert_eq!(desk.reading(u64::MAX), FAULT);
+        desk.put(Slice::Session, word::FIRST, &[0, 20_000, 20_000, 0, 0]);
+        assert_eq!(desk.reading(20_000), FAULT);
+        desk.put(Slice::Session, word::FIRST, &[0, 19_999, 19_999, 0, 0]);
+        assert_eq!(desk.reading(19_999), DONE);
+    }
+}
+
+#[test]
+fn rule_14_limits_of_speeds_and_levers() {
+    for other in others() {
+        for (at, sound, unsound) in [(2, [-200, 200], [-201, 201]), (4, [0, 9], [-1, 10])] {
+            for k in 0..2 {
+                let mut desk = practice(other);
+                desk.put(Slice::State, at, &[sound[k]]);
+                assert_eq!(desk.reading(0), DONE);
+                desk.put(Slice::State, at, &[unsound[k]]);
+                assert_eq!(desk.reading(0), FAULT);
+            }
+        }
+    }
+}
+
+#[test]
+fn rule_14_bytes_after_the_held_part() {
+    for other in others() {
+        for at in [8, 9, 16_383] {
+            let mut desk = practice(other);
+            assert_eq!(desk.deliver(0, 0, 0), TAKEN);
+            desk.put(Slice::Log, at, &[1]);
+            assert_eq!(desk.reading(0), FAULT);
+        }
+        let mut desk = practice(other);
+        desk.put(Slice::Session, word::HELD, &[1]);
+        assert_eq!(desk.deliver(0, 0, 0), HELD, "eight zero bytes are a record");
+        desk.put(Slice::Session, word::HELD, &[2]);
+        assert_eq!(desk.deliver(0, 0, 0), FAULT);
+    }
+}
+
+#[test]
 fn rule_14_says_nothing_of_starts() {
     for other in others() {
         let mut desk = practice(other);
