@@ -120,25 +120,25 @@ impl<'s> Side<'s> {
         lend(&mut self.session, &buffers.session);
     }
 
-    fn put(&mut self, slice: Slice, at: usize, words: &[u64]) {
+    pub fn len(&self, slice: Slice) -> usize {
         match slice {
-            Slice::Cells => put(&mut self.cells, at, words),
-            Slice::Boxes => put(&mut self.boxes, at, words),
-            Slice::State => put(&mut self.state, at, words),
-            Slice::Rows => put(&mut self.rows, at, words),
-            Slice::Log => put(&mut self.log, at, words),
-            Slice::Session => put(&mut self.session, at, words),
+            Slice::Cells => self.cells.len(),
+            Slice::Boxes => self.boxes.len(),
+            Slice::State => self.state.len(),
+            Slice::Rows => self.rows.len(),
+            Slice::Log => self.log.len(),
+            Slice::Session => self.session.len(),
         }
     }
 
-    fn resize(&mut self, slice: Slice, len: usize) {
+    fn buffer(&mut self, slice: Slice) -> &mut dyn Buffer {
         match slice {
-            Slice::Cells => resize(&mut self.cells, len),
-            Slice::Boxes => resize(&mut self.boxes, len),
-            Slice::State => resize(&mut self.state, len),
-            Slice::Rows => resize(&mut self.rows, len),
-            Slice::Log => resize(&mut self.log, len),
-            Slice::Session => resize(&mut self.session, len),
+            Slice::Cells => &mut self.cells,
+            Slice::Boxes => &mut self.boxes,
+            Slice::State => &mut self.state,
+            Slice::Rows => &mut self.rows,
+            Slice::Log => &mut self.log,
+            Slice::Session => &mut self.session,
         }
     }
 
@@ -198,8 +198,8 @@ impl<'s> Side<'s> {
     fn between(&mut self, act: &Act) {
         match act {
             Act::Lend(buffers) => self.lend(buffers),
-            Act::Put { slice, at, words } => self.put(*slice, *at, words),
-            Act::Resize { slice, len } => self.resize(*slice, *len),
+            Act::Put { slice, at, words } => self.buffer(*slice).put(*at, words),
+            Act::Resize { slice, len } => self.buffer(*slice).resize(*len),
             Act::Keep => self.kept = Some(self.buffers()),
             Act::Restore => {
                 if let Some(kept) = self.kept.take() {
@@ -220,16 +220,24 @@ fn lend<T: Copy>(buffer: &mut Guarded<T>, words: &[T]) {
     }
 }
 
-fn put<T: Word>(buffer: &mut Guarded<T>, at: usize, words: &[u64]) {
-    for (place, word) in buffer.iter_mut().skip(at).zip(words) {
-        *place = T::cut(*word);
-    }
+/// A slice of whatever words, as the caller changes it between calls.
+trait Buffer {
+    fn put(&mut self, at: usize, words: &[u64]);
+    fn resize(&mut self, len: usize);
 }
 
-fn resize<T: Word>(buffer: &mut Guarded<T>, len: usize) {
-    let mut words = buffer.to_vec();
-    words.resize(len, T::default());
-    *buffer = Guarded::new(&words);
+impl<T: Word> Buffer for Guarded<T> {
+    fn put(&mut self, at: usize, words: &[u64]) {
+        for (place, word) in self.iter_mut().skip(at).zip(words) {
+            *place = T::cut(*word);
+        }
+    }
+
+    fn resize(&mut self, len: usize) {
+        let mut words = self.to_vec();
+        words.resize(len, T::default());
+        *self = Guarded::new(&words);
+    }
 }
 
 fn number(number: u32) -> Answer {

@@ -4,6 +4,7 @@ use second::act::{Act, Slice};
 use second::desk::Desk;
 use second::numbers::*;
 use second::others;
+use second::random::Random;
 use second::station::{word, Shape, Station};
 use second::worlds::{record, World};
 
@@ -312,5 +313,27 @@ fn order_of_reading_and_writing_one_record() {
         assert_eq!(write(u32::MAX, 31, 256, 0), LEVER);
         assert_eq!(write(180_000, 31, 9, 0), STEP);
         assert_eq!(write(179_999, 31, 9, 7), ROOM);
+    }
+}
+
+#[test]
+fn shown_place_lies_between() {
+    let world =
+        World { shape: Shape { w: 64, h: 1, b: 1 }, cells: vec![0; 64], boxes: vec![0, 0, 1, 256] };
+    let mut random = Random::new(5);
+    for other in others() {
+        let mut desk = Desk::open(other, &world, 0);
+        for _ in 0..2000 {
+            let p = random.within(0..=16_383);
+            let c = random.pick(&[p, 0, 16_383, (p + 100).min(16_383), (p - 200).max(0)]);
+            let any = random.within(0..=19_999);
+            let remainder = random.pick(&[any, any, 0, 1, 19_999]);
+            desk.put(Slice::State, 0, &[c]);
+            desk.put(Slice::Rows, 0, &[p]);
+            desk.put(Slice::Session, word::LAST, &[20_000 + remainder, remainder, 0, 1]);
+            let [x, y] = desk.shown(0);
+            assert!(p.min(c) as f64 <= x && x <= p.max(c) as f64 && y == 0.0);
+            assert!(x == p as f64 || (remainder != 0 && p != c), "{p} {c} {remainder}");
+        }
     }
 }
