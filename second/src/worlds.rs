@@ -63,9 +63,13 @@ impl World {
         World::random_of(random, shape)
     }
 
-    /// Random walls; cells under a carrier are opened, so that every start is free.
     pub fn random_of(random: &mut Random, shape: Shape) -> World {
         let walls_of_16 = random.pick(&[0, 1, 2, 5, 12]);
+        World::with_walls(random, shape, walls_of_16)
+    }
+
+    /// Random walls; cells under a carrier are opened, so that every start is free.
+    pub fn with_walls(random: &mut Random, shape: Shape, walls_of_16: u64) -> World {
         let cells = (0..shape.w * shape.h).map(|_| u8::from(random.below(16) < walls_of_16));
         let mut world = World { shape, cells: cells.collect(), boxes: Vec::new() };
         for _ in 0..shape.b {

@@ -18,7 +18,7 @@ const RECORDS: u64 = 2048;
 const BACK: u64 = 64;
 
 fn main() {
-    let rounds = std::env::args().nth(1).and_then(|word| word.parse().ok()).unwrap_or(15);
+    let rounds = std::env::args().nth(1).and_then(|word| word.parse().ok()).unwrap_or(25);
     let subject = others().pop().expect("a station");
     let ground = Ground::new();
     println!("best of {rounds}, 64 by 64 yard, 32 carriers, 2,048 records");
@@ -99,7 +99,7 @@ struct Ground {
 impl Ground {
     fn new() -> Ground {
         let mut random = Random::new(1);
-        let world = World::random_of(&mut random, YARD);
+        let world = World::with_walls(&mut random, YARD, 1);
         let stride = STEPS / RECORDS;
         let log = (0..RECORDS).flat_map(|k| {
             let step = k * stride + random.below(stride);
