@@ -183,7 +183,8 @@ impl Wander<'_> {
             }
             _ => {
                 let held = self.pair.session(word::HELD);
-                let words = vec![self.random.pick(&[held + 1, held.saturating_sub(1), 2049, any])];
+                let [more, fewer] = [held.saturating_add(1), held.saturating_sub(1)];
+                let words = vec![self.random.pick(&[more, fewer, 2049, any])];
                 self.act(Act::Put { slice: Slice::Session, at: word::HELD, words })
             }
         }
@@ -192,13 +193,14 @@ impl Wander<'_> {
     /// A clock whose time equation fails, or holds only if it wraps or beyond a limit.
     pub fn damage_clock(&mut self) -> Result<(), Difference> {
         let [first, last, remainder, cut, steps] =
-            [3, 4, 5, 6, 7].map(|word| self.pair.session(word));
+            [word::FIRST, word::LAST, word::REMAINDER, word::CUT, word::STEPS]
+                .map(|word| self.pair.session(word));
         let later = last.saturating_add(1 + self.random.below(1_000_000));
         let passed = steps.wrapping_mul(20_000).wrapping_add(remainder);
         let wrapped = last.wrapping_sub(later).wrapping_sub(passed);
         let words = match self.random.below(5) {
             0 => vec![first, last.saturating_add(1), remainder, cut, steps],
-            1 => vec![first, last, remainder + 20_000, cut, steps.wrapping_sub(1)],
+            1 => vec![first, last, remainder.wrapping_add(20_000), cut, steps.wrapping_sub(1)],
             2 => vec![first, last, remainder, cut.wrapping_add(20_000), steps.wrapping_sub(1)],
             3 => vec![0, 20_000 * 180_001, 0, 0, 180_001],
             _ => vec![later, last, remainder, wrapped, steps],

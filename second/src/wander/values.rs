@@ -98,8 +98,9 @@ impl Wander<'_> {
     }
 
     pub fn held_record(&mut self) -> Option<Vec<u8>> {
-        let held: Vec<&[u8]> = self.pair.held().chunks_exact(8).collect();
-        (!held.is_empty()).then(|| held[self.random.index(held.len())].to_vec())
+        let count = self.pair.held().len() / 8;
+        let at = 8 * self.random.index(count.max(1));
+        self.pair.held().get(at..at + 8).map(<[u8]>::to_vec)
     }
 
     pub fn record_step(&mut self) -> u32 {
