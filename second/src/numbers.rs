@@ -1,0 +1,24 @@
+//! "Numbers given back", and the one that document 01 leaves to the C face.
+
+pub const TAKEN: u32 = 0;
+pub const HELD: u32 = 1;
+pub const MALFORMED: u32 = 2;
+pub const CARRIER: u32 = 3;
+pub const LEVER: u32 = 4;
+pub const STEP: u32 = 5;
+pub const CONFLICT: u32 = 6;
+pub const LATE: u32 = 7;
+pub const FULL: u32 = 8;
+pub const WORLD: u32 = 9;
+pub const ROOM: u32 = 10;
+pub const BACKWARD: u32 = 11;
+pub const END: u32 = 12;
+pub const LOG: u32 = 13;
+pub const FAULT: u32 = 14;
+/// An accepted call other than a delivery.
+pub const DONE: u32 = 255;
+
+/// 2 to 14 are refusals.
+pub fn is_refusal(number: u32) -> bool {
+    (MALFORMED..=FAULT).contains(&number)
+}
