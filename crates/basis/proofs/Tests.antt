@@ -2,8 +2,8 @@
 -- that a test says.
 use Prim.Native.Nat.{ℕ, _≤_, _<_}
 use mathlib.Core.Path.{_≡_, refl, sym, _∙_}
-use mathlib.Core.Logic.{_↔_}
-use mathlib.Core.Bool.{Bool, true, false, _&&_, true≢false}
+use mathlib.Core.Logic.{_↔_, _⊎_, inl, inr, ⊎-elim}
+use mathlib.Core.Bool.{Bool, true, false, _&&_, _||_, true≢false}
 use lib.Dec.{leb, ltb, eqb}
 use borrow.Author.Tests.{leb-true, ltb-true, eqb-true, le-leb, lt-ltb, eq-eqb}
 
@@ -59,3 +59,14 @@ says-four p q r f =
       λ e. let h = both .0 e in (h .0 .0, h .0 .1, h .0 .2, h .1),
       λ h. both .1 ((h .0, h .1, h .2), h .3),
     )
+
+pub says-either : {P Q : Type 0} {s t : Bool} → (s ≡ true) ↔ P → (t ≡ true) ↔ Q
+    → ((s || t) ≡ true) ↔ (P ⊎ Q)
+says-either {s = true} p q = (λ e. inl (p .0 refl), λ h. refl)
+says-either {s = false} p q = (λ e. inr (q .0 e), ⊎-elim (λ h. never (p .1 h) refl) (q .1))
+
+-- Two tests that say one fact are one test.
+pub alike : {P : Type 0} {s t : Bool} → (s ≡ true) ↔ P → (t ≡ true) ↔ P → s ≡ t
+alike {s = true} p q = sym (q .1 (p .0 refl))
+alike {s = false} {t = true} p q = p .1 (q .0 refl)
+alike {s = false} {t = false} p q = refl
