@@ -10,8 +10,8 @@ use mathlib.Core.Bool.{Bool, true, false, _&&_, _||_, cond, or-true}
 use borrow.Author.Tests.{ltb-true, lt-ltb, eqb-true, eq-eqb}
 use lib.IntN.{ℤ}
 use lib.Dec.{T, ltb, eqb}
-use lib.Ieee.{Float, inf, fin, Format, prec, emax, low, up, down, unlike}
-use lib.Ieee.{odd, units, round, mul, le}
+use lib.Ieee.{Float, inf, fin, Format, prec, emax, low, up, down, unlike, odd, units, round, mul}
+use lib.Ieee.{le}
 use lib.Ieee.Fits.{down-pos}
 use lib.Ieee.Order.{round-mono}
 use Rattle.shown.proofs.Values.{Exactly, exactly, AtMost, at-most, of-whole}

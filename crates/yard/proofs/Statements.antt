@@ -1,7 +1,6 @@
 -- The statements of specs/Statements.antt, proved.
 use mathlib.Core.Path.{refl, sym, _∙_}
-use Rattle.yard.specs.Statements.{Determined, Free, Rule9, Every, Table}
-use Rattle.yard.specs.Statements.{Move, Step}
+use Rattle.yard.specs.Statements.{Determined, Free, Rule9, Every, Table, Move, Step}
 use Rattle.yard.proofs.Every.{passes, all-pass}
 use Rattle.yard.proofs.Fits.{ranges, cells, sizes, starts}
 use Rattle.yard.proofs.Limits.{push-within, speed-within}
