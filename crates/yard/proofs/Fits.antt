@@ -16,21 +16,22 @@ use Rattle.yard.specs.World.{word, sizeOf, CellsFit, BoxesFit, SizeFits}
 use Rattle.yard.specs.Free.{free}
 use Rattle.yard.specs.Rule9.{rangesHold, cellsHold, sizeHolds, sizesHold, startHolds}
 use Rattle.yard.specs.Rule9.{startsHold}
-use Rattle.yard.specs.Statements.{OneTo}
+use Rattle.yard.specs.Statements.{FromTo}
 use Rattle.yard.proofs.Every.{each}
 
 from-one : (n most : ℕ) → (fromOne n most ≡ true) ↔ ((1 ≤ n) × (n ≤ most))
 from-one n most = says-two (says-le 1 n) (says-le n most)
 
-one-to : (z : ℤ) → (between (pos 1) z (pos 1024) ≡ true) ↔ OneTo 1024 z
+pub from-to : (low high : ℕ) (z : ℤ) → (between (pos low) z (pos high) ≡ true) ↔ FromTo low high z
 unfolding between
-one-to (pos n) = (
-  λ e. let h = from-one n 1024 .0 e in (n, refl, h .0, h .1),
-  λ (m, e, low, high). let same : n ≡ m = cc in from-one n 1024 .1 (omega arith, omega arith),
-)
-one-to (negsuc n) = (
+from-to low high (pos n) =
+    let both = says-two (says-le low n) (says-le n high) in (
+      λ e. let h = both .0 e in (n, refl, h .0, h .1),
+      λ (m, e, l, h). let same : n ≡ m = cc in both .1 (omega arith, omega arith),
+    )
+from-to low high (negsuc n) = (
   λ e. never e refl,
-  λ (m, e, low, high). let z : _≡_ {A = ℕ} 0 1 = cc in absurd (omega arith),
+  λ (m, e, l, h). let z : _≡_ {A = ℕ} 0 1 = cc in absurd (omega arith),
 )
 
 -- Ranges, cells, sizes and starts, each both ways.
@@ -48,10 +49,11 @@ unfolding cellsHold
 cells list = each _ (length list) (λ i. says-le (getD list i 0) 1)
 
 pub sizes : (yard : Yard) (boxes : List ℤ) → (sizesHold yard boxes ≡ true)
-    ↔ ((i : ℕ) → i < yard .b → OneTo 1024 (word boxes i 2) × OneTo 1024 (word boxes i 3))
+    ↔ ((i : ℕ) → i < yard .b → FromTo 1 1024 (word boxes i 2) × FromTo 1 1024 (word boxes i 3))
 unfolding sizesHold sizeHolds
 sizes yard boxes =
-    each _ (yard .b) (λ i. says-two (one-to (word boxes i 2)) (one-to (word boxes i 3)))
+    each _ (yard .b)
+    (λ i. says-two (from-to 1 1024 (word boxes i 2)) (from-to 1 1024 (word boxes i 3)))
 
 pub starts : (yard : Yard) (cells : List ℕ) (boxes : List ℤ) → (startsHold yard cells boxes ≡ true)
     ↔ ((i : ℕ) → i < yard .b

@@ -6,7 +6,7 @@ use Rattle.yard.proofs.Fits.{ranges, cells, sizes, starts}
 use Rattle.yard.proofs.Limits.{push-within, speed-within}
 use Rattle.yard.proofs.Squares.{reading, left, above, near, alone}
 use Rattle.yard.proofs.Walk.{walked, only}
-use Rattle.yard.proofs.Soundness.{rest-sound, step-sound, step-same}
+use Rattle.yard.proofs.Soundness.{rule, rest-sound, step-sound, step-same}
 
 pub free : Free
 free = record { reading = reading; left = left; above = above; near = near; alone = alone }
@@ -27,4 +27,4 @@ pub move : Move
 move = record { walked = walked; only = only }
 
 pub step : Step
-step = record { rest = rest-sound; stays = step-sound; same = step-same }
+step = record { rule = rule; rest = rest-sound; stays = step-sound; same = step-same }

@@ -55,9 +55,9 @@ pub record Determined : Type 0 where
   -- `cells_hold`
   pub cells : (cells : List ℕ) {a b : Bool} → a ≡ cellsHold cells → b ≡ cellsHold cells → a ≡ b
 
--- A word from 1 to most.
-abbrev pub OneTo : ℕ → ℤ → Type 0
-OneTo most z = (n : ℕ) × (z ≡ pos n) × (1 ≤ n) × (n ≤ most)
+-- A word from low to high, ends allowed, where low is at least 0.
+abbrev pub FromTo : ℕ → ℕ → ℤ → Type 0
+FromTo low high z = (n : ℕ) × (z ≡ pos n) × (low ≤ n) × (n ≤ high)
 
 -- Rule 9, part by part in their order: each test holds if and only if its part gives no reason.
 pub record Rule9 : Type 0 where
@@ -71,7 +71,7 @@ pub record Rule9 : Type 0 where
       ↔ ((i : ℕ) → i < length cells → getD cells i 0 ≤ 1)
   -- No 'size out of range': each carrier's w and h, 'each 1 to 1,024 units'.
   pub sizes : (yard : Yard) (boxes : List ℤ) → (sizesHold yard boxes ≡ true)
-      ↔ ((i : ℕ) → i < yard .b → OneTo 1024 (word boxes i 2) × OneTo 1024 (word boxes i 3))
+      ↔ ((i : ℕ) → i < yard .b → FromTo 1 1024 (word boxes i 2) × FromTo 1 1024 (word boxes i 3))
   -- No 'start that isn't free': each carrier is free at its x and y.
   pub starts : (yard : Yard) (cells : List ℕ) (boxes : List ℤ)
       → (startsHold yard cells boxes ≡ true)
@@ -115,6 +115,12 @@ pub record Move : Type 0 where
 
 -- 'One step' of one carrier, whatever places are free.
 pub record Step : Type 0 where
+  -- Sound: 'free, speeds within 200 either way, lever 0 to 9'.
+  pub rule : (free : ℤ → ℤ → Bool) (carrier : Carrier) → (sound free carrier ≡ true)
+      ↔ ((free (carrier .x) (carrier .y) ≡ true)
+      × (natAbs (carrier .u) ≤ 200)
+      × (natAbs (carrier .v) ≤ 200)
+      × FromTo 0 9 (carrier .lever))
   -- A carrier at rest where it is free is sound.
   pub rest : (free : ℤ → ℤ → Bool) (x y : ℤ) → free x y ≡ true
       → sound free (atRest x y) ≡ true
