@@ -5,8 +5,7 @@ use mathlib.Core.Path.{_≡_, refl, sym, ap, _∙_, subst}
 use mathlib.Core.Logic.{_↔_}
 use mathlib.Core.Bool.{Bool, true, false}
 use Rattle.basis.specs.Order.{Answer, refused, accepted, Order, check, give, answer, andThen}
-use Rattle.basis.specs.Order.{isAccepted}
-use Rattle.basis.specs.Order.{First, here, later, Passed, end, after}
+use Rattle.basis.specs.Order.{isAccepted, First, here, later, Passed, end, after}
 use Rattle.basis.proofs.Tests.{never}
 
 module _ {A : Type 0} where

@@ -4,7 +4,7 @@ use mathlib.Core.Path.{_≡_}
 use mathlib.Core.Logic.{_↔_}
 use mathlib.Core.List.{List}
 use lib.ListN.{length}
-use Rattle.basis.specs.Order.{Answer, refused, accepted, Order, answer, First, Passed}
+use Rattle.basis.specs.Order.{refused, accepted, Order, answer, First, Passed}
 use Rattle.basis.specs.LittleEndian.{valueOf, littleEndian, Bytes}
 
 -- 'each given exactly when its rule says' (demand 1), once over any order.

@@ -34,8 +34,9 @@ pub record WordBytes : Type 0 where
   -- The bytes of -1 are 255, four times.
   pub minusOne : wordBytes (negℤ (pos 1)) ≡ 255 ∷ 255 ∷ 255 ∷ 255 ∷ []
 
--- Each contract of this crate says which number the answer's value is.
+-- 'any two outcomes allowed by it coincide', for the contract of each public entry: each says which
+-- number the answer's value is.
 pub record Determined : Type 0 where
-  -- Any two answers that such a contract allows are one.
+  -- `Digest::new`, `Digest::of_state`, `Digest::bytes`, `Digest::word`, `Digest::words`
   pub answer : (one other : Digest) (number : ℕ)
       → one .value ≡ number → other .value ≡ number → one ≡ other

@@ -11,8 +11,8 @@ use lib.IntN.{ℤ, pos, negsuc, natAbs}
 use lib.Dec.{T, lit≤}
 use lib.Ieee.{Float, binary64, ofInt, round, sum, add, sub, mul, isNan}
 use Rattle.shown.specs.Blend.{whole, alphaOf, blendOf, isWithin, isBetween}
-use Rattle.shown.proofs.Values.{Exactly, AtMost, of-whole, of-neg}
-use Rattle.shown.proofs.Values.{add-exactly, add-at-most, div-exactly}
+use Rattle.shown.proofs.Values.{Exactly, AtMost, of-whole, of-neg, add-exactly, add-at-most}
+use Rattle.shown.proofs.Values.{div-exactly}
 use Rattle.shown.proofs.Rounding.{of-round, of-mul}
 use Rattle.shown.proofs.Differences.{difference, keeps, number, plus, minus, sum-is}
 use Rattle.shown.proofs.Differences.{rises-over, falls-over, one-number}

@@ -5,15 +5,17 @@ use native.Mathlib.Nat.{mul-right-comm, mul-mul-mul-comm, mul-pos, mul-le-mul-le
 use native.Mathlib.Nat.{le-of-mul-le-mul-right}
 use native.Mathlib.Omega.{arith}
 use mathlib.Core.Path.{_≡_, refl, sym}
-use mathlib.Core.Logic.{inl, inr}
+use mathlib.Core.Logic.{inl, inr, ⊎-elim, Iff·rfl}
 use mathlib.Core.Bool.{Bool, true, false, _&&_, _||_, cond, or-true}
-use borrow.Author.Tests.{ltb-true, lt-ltb, eqb-true, eq-eqb}
+use borrow.Author.Tests.{lt-ltb, eq-eqb}
 use lib.IntN.{ℤ}
 use lib.Dec.{T, ltb, eqb}
-use lib.Ieee.{Float, inf, fin, Format, prec, emax, low, up, down, unlike}
-use lib.Ieee.{odd, units, round, mul, le}
+use lib.Ieee.{Float, inf, fin, Format, prec, emax, low, up, down, unlike, odd, units, round, mul}
+use lib.Ieee.{le}
+use lib.Ieee.Bits.{is-true}
 use lib.Ieee.Fits.{down-pos}
 use lib.Ieee.Order.{round-mono}
+use Rattle.basis.proofs.Tests.{says-lt, says-eq, says-two, says-either}
 use Rattle.shown.proofs.Values.{Exactly, exactly, AtMost, at-most, of-whole}
 
 -- A float for each sign, of one size.
@@ -36,12 +38,9 @@ twins f a b = unit-twins f _ _
 
 -- The order of two floats, by their sizes over one denominator.
 of-le : (a b : ℕ) → T (ltb a b || (eqb a b && true)) → a ≤ b
-of-le a b = go (ltb a b) (eqb a b) refl refl
-  where
-    go : (t u : Bool) → ltb a b ≡ t → eqb a b ≡ u → T (t || (u && true)) → a ≤ b
-    go true u e e' h = le-of-lt (ltb-true a b e)
-    go false true e e' h = le-of-eq (eqb-true a b e')
-    go false false e e' h = absurd h
+of-le a b h =
+    ⊎-elim le-of-lt (λ e. le-of-eq (e .0))
+    (says-either (says-lt a b) (says-two (says-eq a b) Iff·rfl) .0 (is-true _ h))
 
 to-ge : (a b : ℕ) → b ≤ a → T (ltb b a || (eqb a b && true))
 to-ge a b h = elim (eq-or-lt-of-le h) [

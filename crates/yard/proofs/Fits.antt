@@ -1,67 +1,85 @@
--- Laws of rule 9: what its tests say, as the facts that functions over a world require.
+-- Laws of rule 9: what each part says, both ways, and so the facts that functions over a world
+-- require.
 use Prim.Native.Nat.{ℕ, _*_, _≤_, _<_}
 use mathlib.Core.Path.{_≡_, refl}
-use mathlib.Core.Bool.{true, _&&_}
+use mathlib.Core.Bool.{true}
 use mathlib.Core.List.{List}
-use borrow.Author.Tests.{leb-true}
-use lib.Dec.{leb}
-use lib.IntN.{ℤ, pos, negsuc, natAbs}
-use lib.ListN.{length}
+use mathlib.Core.Logic.{_↔_, Iff·rfl}
+use native.Mathlib.Omega.{arith}
+use lib.IntN.{ℤ, pos, negsuc}
+use lib.ListN.{getD, length}
 use Rattle.basis.specs.Numbers.{mostCarriers}
-use Rattle.basis.proofs.Tests.{never, and-left, and-right}
+use Rattle.basis.proofs.Tests.{never, says-le, says-two, says-three}
 use Rattle.yard.specs.declared.world.Yard.{Yard}
 use Rattle.yard.specs.Ranges.{between, fromOne}
 use Rattle.yard.specs.World.{word, sizeOf, CellsFit, BoxesFit, SizeFits}
 use Rattle.yard.specs.Free.{free}
-use Rattle.yard.specs.Rule9.{rangesHold, sizeHolds, sizesHold, startHolds, startsHold}
-use Rattle.yard.proofs.Every.{passes}
+use Rattle.yard.specs.Rule9.{rangesHold, cellsHold, sizeHolds, sizesHold, startHolds}
+use Rattle.yard.specs.Rule9.{startsHold}
+use Rattle.yard.specs.Statements.{FromTo}
+use Rattle.yard.proofs.Every.{each}
 
-from-one : (n most : ℕ) → fromOne n most ≡ true → (1 ≤ n) × (n ≤ most)
-from-one n most e =
-    let low = leb-true 1 n (and-left (leb 1 n) (leb n most) e) in
-    let high = leb-true n most (and-right (leb 1 n) (leb n most) e) in
-    (low, high)
+from-one : (n most : ℕ) → (fromOne n most ≡ true) ↔ ((1 ≤ n) × (n ≤ most))
+from-one n most = says-two (says-le 1 n) (says-le n most)
 
-one-to : (z : ℤ) → between (pos 1) z (pos 1024) ≡ true → (1 ≤ natAbs z) × (natAbs z ≤ 1024)
+pub from-to : (low high : ℕ) (z : ℤ) → (between (pos low) z (pos high) ≡ true) ↔ FromTo low high z
 unfolding between
-one-to (pos n) e = from-one n 1024 e
-one-to (negsuc n) e = never e refl
+from-to low high (pos n) =
+    let both = says-two (says-le low n) (says-le n high) in (
+      λ e. let h = both .0 e in (n, refl, h .0, h .1),
+      λ (m, e, l, h). let same : n ≡ m = cc in both .1 (omega arith, omega arith),
+    )
+from-to low high (negsuc n) = (
+  λ e. never e refl,
+  λ (m, e, l, h). let z : _≡_ {A = ℕ} 0 1 = cc in absurd (omega arith),
+)
+
+-- Ranges, cells, sizes and starts, each both ways.
+pub ranges : (yard : Yard) → (rangesHold yard ≡ true)
+    ↔ (((1 ≤ yard .w) × (yard .w ≤ 64))
+    × ((1 ≤ yard .h) × (yard .h ≤ 64))
+    × ((1 ≤ yard .b) × (yard .b ≤ mostCarriers)))
+unfolding rangesHold
+ranges yard =
+    says-three (from-one (yard .w) 64) (from-one (yard .h) 64) (from-one (yard .b) mostCarriers)
+
+pub cells : (cells : List ℕ) → (cellsHold cells ≡ true)
+    ↔ ((i : ℕ) → i < length cells → getD cells i 0 ≤ 1)
+unfolding cellsHold
+cells list = each _ (length list) (λ i. says-le (getD list i 0) 1)
+
+pub sizes : (yard : Yard) (boxes : List ℤ) → (sizesHold yard boxes ≡ true)
+    ↔ ((i : ℕ) → i < yard .b → FromTo 1 1024 (word boxes i 2) × FromTo 1 1024 (word boxes i 3))
+unfolding sizesHold sizeHolds
+sizes yard boxes =
+    each _ (yard .b)
+    (λ i. says-two (from-to 1 1024 (word boxes i 2)) (from-to 1 1024 (word boxes i 3)))
+
+pub starts : (yard : Yard) (cells : List ℕ) (boxes : List ℤ) → (startsHold yard cells boxes ≡ true)
+    ↔ ((i : ℕ) → i < yard .b
+    → free yard cells (sizeOf boxes i) (word boxes i 0) (word boxes i 1) ≡ true)
+unfolding startsHold startHolds
+starts yard cells boxes = each _ (yard .b) (λ i. Iff·rfl)
 
 -- Ranges and lengths fit the cells and the boxes.
 module _ (yard : Yard) (e : rangesHold yard ≡ true) where
   pub cells-fit : (cells : List ℕ) → length cells ≡ yard .w * yard .h → CellsFit yard cells
-  unfolding rangesHold
   cells-fit cells room =
-      let w = fromOne (yard .w) 64 in
-      let h = fromOne (yard .h) 64 in
-      let both = and-left (w && h) (fromOne (yard .b) mostCarriers) e in
-      record {
-        w = from-one (yard .w) 64 (and-left w h both) .1;
-        h = from-one (yard .h) 64 (and-right w h both) .1;
-        room = room;
-      }
+      let within = ranges yard .0 e in
+      record { w = within .0 .1; h = within .1 .1; room = room }
 
   pub boxes-fit : (boxes : List ℤ) → length boxes ≡ 4 * yard .b → BoxesFit yard boxes
-  unfolding rangesHold
-  boxes-fit boxes room =
-      let sides = fromOne (yard .w) 64 && fromOne (yard .h) 64 in
-      let b = and-right sides (fromOne (yard .b) mostCarriers) e in
-      record { b = from-one (yard .b) mostCarriers b .1; room = room }
+  boxes-fit boxes room = record { b = ranges yard .0 e .2 .1; room = room }
 
 -- Sizes that hold fit, and starts that hold are free.
 pub sizes-fit : (yard : Yard) (boxes : List ℤ) → sizesHold yard boxes ≡ true
     → (i : ℕ) → i < yard .b → SizeFits (sizeOf boxes i)
-unfolding sizesHold sizeHolds sizeOf
+unfolding sizeOf
 sizes-fit yard boxes e i l =
-    let w = between (pos 1) (word boxes i 2) (pos 1024) in
-    let h = between (pos 1) (word boxes i 3) (pos 1024) in
-    let both = passes (sizeHolds boxes) (yard .b) e i l in
-    let wide = one-to (word boxes i 2) (and-left w h both) in
-    let high = one-to (word boxes i 3) (and-right w h both) in
-    record { w-low = wide .0; w-high = wide .1; h-low = high .0; h-high = high .1 }
+    let ((w, p, wl, wh), (h, q, hl, hh)) = sizes yard boxes .0 e i l in
+    rw (p, q) (record { w-low = wl; w-high = wh; h-low = hl; h-high = hh })
 
 pub start-free : (yard : Yard) (cells : List ℕ) (boxes : List ℤ)
     → startsHold yard cells boxes ≡ true → (i : ℕ) → i < yard .b
     → free yard cells (sizeOf boxes i) (word boxes i 0) (word boxes i 1) ≡ true
-unfolding startsHold startHolds
-start-free yard cells boxes e i l = passes (startHolds yard cells boxes) (yard .b) e i l
+start-free yard cells boxes = starts yard cells boxes .0

@@ -2,7 +2,7 @@
 --   Cases       a test and its two cases; what `if !call(..)` says
 --   Signed      signed words: what is small, what is read back
 --   Every       a test of every number below a bound
---   Fits        rule 9's tests, as the facts that functions over a world require
+--   Fits        rule 9's parts, both ways; the facts that functions over a world require
 --   Squares     free, by covered cells and by unit squares
 --   Limits      the table's bound 12, speeds within 200
 --   Walk        the move along one axis, for any `free`

@@ -1,42 +1,41 @@
 -- Laws of the state rule: what it says of one carrier, and that a step keeps it, for any `free`.
 use Prim.Native.Nat.{ℕ, suc, _≤_}
 use mathlib.Core.Path.{_≡_, refl, ap, fun-ext}
-use mathlib.Core.Bool.{Bool, true, _&&_}
+use mathlib.Core.Logic.{_↔_, Iff·rfl}
+use mathlib.Core.Bool.{Bool, true}
 use native.Mathlib.Omega.{arith}
 use borrow.Author.Tests.{leb-true, le-leb}
 use lib.Dec.{leb}
 use lib.IntN.{ℤ, pos, negsuc, natAbs}
-use Rattle.basis.proofs.Tests.{never, and-both, and-left, and-right}
+use Rattle.basis.proofs.Tests.{and-both, and-left, says-le, says-four}
 use Rattle.yard.specs.declared.carrier.Carrier.{Carrier}
 use Rattle.yard.specs.declared.carrier.Held.{Held}
 use Rattle.yard.specs.declared.carrier.Held.the-variants.{Nothing, Lever}
 use Rattle.yard.specs.declared.levers.Axis.the-variants.{X, Y}
-use Rattle.yard.specs.Ranges.{minus, between}
+use Rattle.yard.specs.Ranges.{between}
 use Rattle.yard.specs.Levers.{newSpeed}
 use Rattle.yard.specs.Slide.{slide}
 use Rattle.yard.specs.Step.{leverAfter, LeverFits, atRest, step, sound}
+use Rattle.yard.specs.Statements.{FromTo}
+use Rattle.yard.proofs.Fits.{from-to}
 use Rattle.yard.proofs.Limits.{speed-within}
 use Rattle.yard.proofs.Walk.{slide-within, slide-x-free, slide-y-free}
 
 -- Within a bound either way, and from 0 to a bound.
-either-way : (b : ℕ) (z : ℤ) → between (negsuc b) z (pos (suc b)) ≡ true → natAbs z ≤ suc b
+either-way : (b : ℕ) (z : ℤ)
+    → (between (negsuc b) z (pos (suc b)) ≡ true) ↔ (natAbs z ≤ suc b)
 unfolding between
-either-way b (pos n) e = leb-true n (suc b) e
-either-way b (negsuc n) e = let h = leb-true n b (and-left (leb n b) true e) in omega arith
-
-within-way : (b : ℕ) (z : ℤ) → natAbs z ≤ suc b → between (negsuc b) z (pos (suc b)) ≡ true
-unfolding between
-within-way b (pos n) h = le-leb n (suc b) h
-within-way b (negsuc n) h = and-both (le-leb n b (omega arith)) refl
+either-way b (pos n) = says-le n (suc b)
+either-way b (negsuc n) = (
+  λ e. let h = leb-true n b (and-left (leb n b) true e) in omega arith,
+  λ h. and-both (le-leb n b (omega arith)) refl,
+)
 
 pub from-zero : (b : ℕ) (z : ℤ) → between (pos 0) z (pos b) ≡ true → natAbs z ≤ b
-unfolding between
-from-zero b (pos n) e = leb-true n b (and-right (leb 0 n) (leb n b) e)
-from-zero b (negsuc n) e = never e refl
+from-zero b z e = let (n, same, low, high) = from-to 0 b z .0 e in rw same high
 
 zero-to : (b n : ℕ) → n ≤ b → between (pos 0) (pos n) (pos b) ≡ true
-unfolding between
-zero-to b n h = and-both (le-leb 0 n (omega arith)) (le-leb n b h)
+zero-to b n h = from-to 0 b (pos n) .1 (n, refl, omega arith, h)
 
 -- The state rule, as facts.
 pub record Good (free : ℤ → ℤ → Bool) (carrier : Carrier) : Type 0 where
@@ -46,28 +45,30 @@ pub record Good (free : ℤ → ℤ → Bool) (carrier : Carrier) : Type 0 where
   pub lever : between (pos 0) (carrier .lever) (pos 9) ≡ true
 
 module _ (free : ℤ → ℤ → Bool) (carrier : Carrier) where
-  pub good-of : sound free carrier ≡ true → Good free carrier
+  -- The state rule, where the lever's test says a fact.
+  by-lever : {L : Type 0} → (between (pos 0) (carrier .lever) (pos 9) ≡ true) ↔ L
+      → (sound free carrier ≡ true)
+      ↔ ((free (carrier .x) (carrier .y) ≡ true)
+      × (natAbs (carrier .u) ≤ 200)
+      × (natAbs (carrier .v) ≤ 200)
+      × L)
   unfolding sound
+  by-lever = says-four Iff·rfl (either-way 199 (carrier .u)) (either-way 199 (carrier .v))
+
+  pub rule : (sound free carrier ≡ true)
+      ↔ ((free (carrier .x) (carrier .y) ≡ true)
+      × (natAbs (carrier .u) ≤ 200)
+      × (natAbs (carrier .v) ≤ 200)
+      × FromTo 0 9 (carrier .lever))
+  rule = by-lever (from-to 0 9 (carrier .lever))
+
+  pub good-of : sound free carrier ≡ true → Good free carrier
   good-of e =
-      let f = free (carrier .x) (carrier .y) in
-      let u = between (minus 200) (carrier .u) (pos 200) in
-      let v = between (minus 200) (carrier .v) (pos 200) in
-      let l = between (pos 0) (carrier .lever) (pos 9) in
-      let fuv = and-left (f && u && v) l e in
-      let fu = and-left (f && u) v fuv in
-      record {
-        here = and-left f u fu;
-        u = either-way 199 (carrier .u) (and-right f u fu);
-        v = either-way 199 (carrier .v) (and-right (f && u) v fuv);
-        lever = and-right (f && u && v) l e;
-      }
+      let (here, u, v, lever) = by-lever Iff·rfl .0 e in
+      record { here = here; u = u; v = v; lever = lever }
 
   pub of-good : Good free carrier → sound free carrier ≡ true
-  unfolding sound
-  of-good g =
-      let u = within-way 199 (carrier .u) (g .u) in
-      let v = within-way 199 (carrier .v) (g .v) in
-      and-both (and-both (and-both (g .here) u) v) (g .lever)
+  of-good g = by-lever Iff·rfl .1 (g .here, g .u, g .v, g .lever)
 
 -- Part 1 leaves a lever 0 to 9.
 pub lever-holds : (held : Held) (lever : ℤ) → LeverFits held → between (pos 0) lever (pos 9) ≡ true

@@ -1,14 +1,21 @@
 -- The statements of specs/Statements.antt, proved.
-use mathlib.Core.Path.{refl}
-use Rattle.yard.specs.Statements.{Free, Every, Table, Move, Step}
+use mathlib.Core.Path.{refl, sym, _∙_}
+use Rattle.yard.specs.Statements.{Determined, Free, Rule9, Every, Table, Move, Step}
 use Rattle.yard.proofs.Every.{passes, all-pass}
+use Rattle.yard.proofs.Fits.{ranges, cells, sizes, starts}
 use Rattle.yard.proofs.Limits.{push-within, speed-within}
 use Rattle.yard.proofs.Squares.{reading, left, above, near, alone}
 use Rattle.yard.proofs.Walk.{walked, only}
-use Rattle.yard.proofs.Soundness.{rest-sound, step-sound, step-same}
+use Rattle.yard.proofs.Soundness.{rule, rest-sound, step-sound, step-same}
 
 pub free : Free
 free = record { reading = reading; left = left; above = above; near = near; alone = alone }
+
+pub determined : Determined
+determined = record { ranges = λ yard p q. p ∙ sym q; cells = λ cells p q. p ∙ sym q }
+
+pub rule9 : Rule9
+rule9 = record { ranges = ranges; cells = cells; sizes = sizes; starts = starts }
 
 pub every : Every
 every = record { reading = λ test n. (passes test n, all-pass test n) }
@@ -20,4 +27,4 @@ pub move : Move
 move = record { walked = walked; only = only }
 
 pub step : Step
-step = record { rest = rest-sound; stays = step-sound; same = step-same }
+step = record { rule = rule; rest = rest-sound; stays = step-sound; same = step-same }

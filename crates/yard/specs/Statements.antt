@@ -5,15 +5,17 @@ use mathlib.Core.Logic.{_↔_}
 use mathlib.Core.Bool.{Bool, true, false}
 use mathlib.Core.List.{List}
 use lib.IntN.{ℤ, pos, negsuc, natAbs}
-use lib.ListN.{length}
+use lib.ListN.{getD, length}
+use Rattle.basis.specs.Numbers.{mostCarriers}
 use Rattle.yard.specs.declared.world.Yard.{Yard}
 use Rattle.yard.specs.declared.world.Size.{Size}
 use Rattle.yard.specs.declared.levers.Axis.{Axis}
 use Rattle.yard.specs.declared.carrier.Carrier.{Carrier}
 use Rattle.yard.specs.declared.carrier.Held.{Held}
 use Rattle.yard.specs.Ranges.{every}
-use Rattle.yard.specs.World.{CellsFit}
+use Rattle.yard.specs.World.{word, sizeOf, CellsFit}
 use Rattle.yard.specs.Free.{wall, free}
+use Rattle.yard.specs.Rule9.{rangesHold, cellsHold, sizesHold, startsHold}
 use Rattle.yard.specs.Levers.{on, pushes, pushOf, newSpeed}
 use Rattle.yard.specs.Slide.{clearOn, distance}
 use Rattle.yard.specs.Step.{LeverFits, atRest, step, sound}
@@ -45,6 +47,36 @@ pub record Free : Type 0 where
   -- The number of carriers plays no part.
   pub alone : (a b : Yard) (cells : List ℕ) (size : Size) (x y : ℤ) → a .w ≡ b .w → a .h ≡ b .h
       → free a cells size x y ≡ free b cells size x y
+
+-- 'any two outcomes allowed by it coincide', for the contract of each public entry.
+pub record Determined : Type 0 where
+  -- `ranges_hold`
+  pub ranges : (yard : Yard) {a b : Bool} → a ≡ rangesHold yard → b ≡ rangesHold yard → a ≡ b
+  -- `cells_hold`
+  pub cells : (cells : List ℕ) {a b : Bool} → a ≡ cellsHold cells → b ≡ cellsHold cells → a ≡ b
+
+-- A word from low to high, ends allowed, where low is at least 0.
+abbrev pub FromTo : ℕ → ℕ → ℤ → Type 0
+FromTo low high z = (n : ℕ) × (z ≡ pos n) × (low ≤ n) × (n ≤ high)
+
+-- Rule 9, part by part in their order: each test holds if and only if its part gives no reason.
+pub record Rule9 : Type 0 where
+  -- No 'W, H or B out of range': 'each of W and H from 1 to 64', 'B carriers, 1 to 32'.
+  pub ranges : (yard : Yard) → (rangesHold yard ≡ true)
+      ↔ (((1 ≤ yard .w) × (yard .w ≤ 64))
+      × ((1 ≤ yard .h) × (yard .h ≤ 64))
+      × ((1 ≤ yard .b) × (yard .b ≤ mostCarriers)))
+  -- No 'cell byte above 1'.
+  pub cells : (cells : List ℕ) → (cellsHold cells ≡ true)
+      ↔ ((i : ℕ) → i < length cells → getD cells i 0 ≤ 1)
+  -- No 'size out of range': each carrier's w and h, 'each 1 to 1,024 units'.
+  pub sizes : (yard : Yard) (boxes : List ℤ) → (sizesHold yard boxes ≡ true)
+      ↔ ((i : ℕ) → i < yard .b → FromTo 1 1024 (word boxes i 2) × FromTo 1 1024 (word boxes i 3))
+  -- No 'start that isn't free': each carrier is free at its x and y.
+  pub starts : (yard : Yard) (cells : List ℕ) (boxes : List ℤ)
+      → (startsHold yard cells boxes ≡ true)
+      ↔ ((i : ℕ) → i < yard .b
+      → free yard cells (sizeOf boxes i) (word boxes i 0) (word boxes i 1) ≡ true)
 
 -- How a test of every number below n reads, in rule 9 and in `noWall`.
 pub record Every : Type 0 where
@@ -83,6 +115,12 @@ pub record Move : Type 0 where
 
 -- 'One step' of one carrier, whatever places are free.
 pub record Step : Type 0 where
+  -- Sound: 'free, speeds within 200 either way, lever 0 to 9'.
+  pub rule : (free : ℤ → ℤ → Bool) (carrier : Carrier) → (sound free carrier ≡ true)
+      ↔ ((free (carrier .x) (carrier .y) ≡ true)
+      × (natAbs (carrier .u) ≤ 200)
+      × (natAbs (carrier .v) ≤ 200)
+      × FromTo 0 9 (carrier .lever))
   -- A carrier at rest where it is free is sound.
   pub rest : (free : ℤ → ℤ → Bool) (x y : ℤ) → free x y ≡ true
       → sound free (atRest x y) ≡ true
