@@ -1,6 +1,6 @@
 // Document 01, 'Going back': late records, repeats, orders, and the log when it is full.
-use super::kept::Kept;
-use super::kept::replay;
+use super::practice::Practice;
+use super::practice::replay;
 use super::say;
 use record::Record;
 
@@ -13,8 +13,8 @@ pub fn run() {
 }
 
 // 100 steps made, and the carrier on its way.
-fn under_way() -> Kept {
-    let k = Kept::open(0).deliver(0, 0, 1).deliver(30, 0, 4);
+fn under_way() -> Practice {
+    let k = Practice::open(0).deliver(0, 0, 1).deliver(30, 0, 4);
     k.deliver(60, 0, 9).deliver(92, 0, 8).hundred()
 }
 
@@ -37,7 +37,10 @@ fn window() {
 
 fn held() {
     say::title(b"100 steps made, step 35 already held: the same lever is HELD, another 6");
-    let k = Kept::open(0).deliver(35, 0, 3).deliver(90, 0, 8).hundred();
+    let k = Practice::open(0)
+        .deliver(35, 0, 3)
+        .deliver(90, 0, 8)
+        .hundred();
     k.digest();
     k.deliver(35, 0, 3).deliver(35, 0, 4).digest();
 }
@@ -56,7 +59,7 @@ fn orders() {
 
 fn full() {
     say::title(b"2048 held: another is refused; 1, 6 and 7 come before 8");
-    let k = filled(Kept::open(0));
+    let k = filled(Practice::open(0));
     k.digest();
     let k = k.deliver(2_148, 0, 1)
         .deliver(100, 0, 0)
@@ -69,18 +72,18 @@ fn full() {
 }
 
 // Records for the steps 100 to 2,147: levers 0 to 9 by turns.
-fn filled(kept: Kept) -> Kept {
-    let mut kept = kept;
+fn filled(opened: Practice) -> Practice {
+    let mut k = opened;
     let mut step = 100;
     while step < 2_148 {
-        kept = kept.put(Record {
+        k = k.put(Record {
             step,
             carrier: 0,
             lever: (step % 10) as u8,
         });
         step += 1;
     }
-    kept
+    k
 }
 
 fn replays() {

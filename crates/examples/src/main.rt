@@ -2,15 +2,17 @@
 // real buffers: a line for each call, with what it was given and what it gave. The file `stdout`
 // holds what a model in Python gives, written from document 01 alone.
 //   say, answers  what is written, and the session that goes on
-//   kept          the practice yard with all that is lent
+//   practice      the practice yard with all that is lent
+//   changed       the same with other words
 //   pair          two carriers
 //   late          going back, the full log, replay
 //   time          readings, shown places
 //   refused       each refusal
 mod answers;
-mod kept;
+mod changed;
 mod late;
 mod pair;
+mod practice;
 mod refused;
 mod say;
 mod time;

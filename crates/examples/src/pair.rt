@@ -1,24 +1,24 @@
-// Two carriers in the cells of the practice yard: late records of one step, in both orders.
+// Two carriers in the cells of the practice yard.
 use super::answers;
-use super::kept::Kept;
+use super::practice::Practice;
 use super::say;
 use record::Record;
 use session::Session;
 use yard::Yard;
 
 pub fn run() {
-    say::title(b"two carriers, two late records of one step, in both orders");
-    let k = Pair::open()
-        .reading(250_000)
-        .deliver(3, 0, 2)
-        .deliver(3, 1, 4);
+    say::title(b"two carriers, two late records, in both orders: levers come back with places");
+    let k = twelve().deliver(5, 1, 4).deliver(6, 0, 1);
     k.tell();
-    let k = Pair::open()
-        .reading(250_000)
-        .deliver(3, 1, 4)
-        .deliver(3, 0, 2);
+    let k = twelve().deliver(6, 0, 1).deliver(5, 1, 4);
     k.tell();
-    k.deliver(3, 1, 4).deliver(3, 1, 5).deliver(3, 2, 4).tell();
+    k.deliver(5, 1, 4).deliver(5, 1, 5).deliver(5, 2, 4).tell();
+}
+
+// 12 steps made under two records for carrier 0.
+fn twelve() -> Pair {
+    let k = Pair::open().deliver(0, 0, 2).deliver(8, 0, 9);
+    k.reading(250_000)
 }
 
 struct Pair {
@@ -34,7 +34,7 @@ impl Pair {
     const BOXES: [i32; 8] = [0, 256, 256, 256, 300, 100, 200, 100];
 
     fn open() -> Pair {
-        let cells = Kept::CELLS;
+        let cells = Practice::CELLS;
         let boxes = Pair::BOXES;
         let mut state = [7i32; 10];
         let mut rows = [7i32; 640];
@@ -62,7 +62,7 @@ impl Pair {
 
     fn reading(self, reading: u64) -> Pair {
         let old = self.session;
-        let cells = Kept::CELLS;
+        let cells = Practice::CELLS;
         let boxes = Pair::BOXES;
         let mut state = self.state;
         let mut rows = self.rows;
@@ -82,7 +82,7 @@ impl Pair {
 
     fn deliver(self, step: u32, carrier: u8, lever: u8) -> Pair {
         let old = self.session;
-        let cells = Kept::CELLS;
+        let cells = Practice::CELLS;
         let boxes = Pair::BOXES;
         let mut state = self.state;
         let mut rows = self.rows;
@@ -115,7 +115,7 @@ impl Pair {
     }
 
     fn digest(self) {
-        let cells = Kept::CELLS;
+        let cells = Practice::CELLS;
         let boxes = Pair::BOXES;
         let state = self.state;
         let rows = self.rows;
@@ -132,7 +132,7 @@ impl Pair {
     }
 
     fn shown(self, carrier: u32) {
-        let cells = Kept::CELLS;
+        let cells = Practice::CELLS;
         let boxes = Pair::BOXES;
         let state = self.state;
         let rows = self.rows;

@@ -1,6 +1,6 @@
 // Document 01, 'Numbers given back': records, worlds, lengths and sessions that are refused.
 use super::answers;
-use super::kept::Kept;
+use super::practice::Practice;
 use super::say;
 use clock::Clock;
 use session::Session;
@@ -16,8 +16,8 @@ pub fn run() {
 }
 
 // 12 steps made and one record held.
-fn twelve() -> Kept {
-    let k = Kept::open(0).deliver(0, 0, 1).reading(250_000);
+fn twelve() -> Practice {
+    let k = Practice::open(0).deliver(0, 0, 1).reading(250_000);
     k.digest();
     k
 }
@@ -34,7 +34,7 @@ fn records() {
     k.deliver(179_999, 0, 9).digest();
 }
 
-fn bytes(k: Kept, name: &[u8], bytes: &[u8]) -> Kept {
+fn bytes(k: Practice, name: &[u8], bytes: &[u8]) -> Practice {
     say::text(b"deliver ");
     say::text(name);
     k.bytes(bytes)
@@ -42,55 +42,44 @@ fn bytes(k: Kept, name: &[u8], bytes: &[u8]) -> Kept {
 
 fn worlds() {
     say::title(b"9, and the session on these buffers goes on");
-    let k = boxes(sides(twelve()));
-    k.digest();
-}
-
-fn sides(k: Kept) -> Kept {
-    let k = sized(k, b"W 0", Yard { w: 0, h: 3, b: 1 });
-    let k = sized(k, b"W 65", Yard { w: 65, h: 3, b: 1 });
-    let k = sized(k, b"H 0", Yard { w: 4, h: 0, b: 1 });
-    let k = sized(k, b"H 65", Yard { w: 4, h: 65, b: 1 });
-    let k = sized(k, b"B 0", Yard { w: 4, h: 3, b: 0 });
-    sized(k, b"B 33", Yard { w: 4, h: 3, b: 33 })
-}
-
-fn boxes(k: Kept) -> Kept {
+    let k = sized(sized(twelve(), 0, 3, 1), 65, 3, 1);
+    let k = sized(sized(k, 4, 0, 1), 4, 65, 1);
+    let k = sized(sized(k, 4, 3, 0), 4, 3, 33);
     let k = celled(k, b"a cell of 2", b"\0\0\0\0\0\0\0\x02\0\0\0\0");
     let k = boxed(k, b"width 0", &[0, 256, 0, 256]);
     let k = boxed(k, b"height 1025", &[0, 0, 256, 1_025]);
     let k = boxed(k, b"x -1", &[-1, 256, 256, 256]);
-    let k = boxed(k, b"y 513", &[0, 513, 256, 256]);
-    boxed(k, b"x 513, in the wall", &[513, 256, 256, 256])
+    let k = boxed(k, b"a carrier in the wall", &[513, 256, 256, 256]);
+    k.digest();
 }
 
-fn sized(k: Kept, name: &[u8], yard: Yard) -> Kept {
-    let cells = Kept::CELLS;
-    let boxes = Kept::BOXES;
-    say::text(b"open with ");
-    say::text(name);
-    k.opened(yard, 0, &cells, &boxes)
+// Opening with W, H and B.
+fn sized(k: Practice, w: u32, h: u32, b: u32) -> Practice {
+    let cells = Practice::CELLS;
+    let boxes = Practice::BOXES;
+    say::named(b"open with", w as u64);
+    say::number(h as u64);
+    say::number(b as u64);
+    k.opened(Yard { w, h, b }, 0, &cells, &boxes)
 }
 
-fn celled(k: Kept, name: &[u8], cells: &[u8]) -> Kept {
-    let boxes = Kept::BOXES;
+fn celled(k: Practice, name: &[u8], cells: &[u8]) -> Practice {
+    let boxes = Practice::BOXES;
     say::text(b"open with ");
     say::text(name);
-    k.opened(Kept::YARD, 0, cells, &boxes)
+    k.opened(Practice::YARD, 0, cells, &boxes)
 }
 
-fn boxed(k: Kept, name: &[u8], boxes: &[i32]) -> Kept {
-    let cells = Kept::CELLS;
+fn boxed(k: Practice, name: &[u8], boxes: &[i32]) -> Practice {
+    let cells = Practice::CELLS;
     say::text(b"open with ");
     say::text(name);
-    k.opened(Kept::YARD, 0, &cells, boxes)
+    k.opened(Practice::YARD, 0, &cells, boxes)
 }
 
 fn lengths() {
     say::title(b"10, after the ranges and before the cells");
-    let k = twelve();
-    let k = sized(k, b"W 5", Yard { w: 5, h: 3, b: 1 });
-    let k = sized(k, b"B 2", Yard { w: 4, h: 3, b: 2 });
+    let k = sized(sized(twelve(), 5, 3, 1), 4, 3, 2);
     let k = celled(k, b"two cells of 2", b"\x02\x02");
     let k = boxed(k, b"three words of boxes", &[0, 256, 0]);
     k.digest();
@@ -121,64 +110,65 @@ fn log_byte_missing() {
 }
 
 fn opened(name: &[u8], state: &mut [i32], rows: &mut [i32], log: &mut [u8]) {
-    let cells = Kept::CELLS;
-    let boxes = Kept::BOXES;
+    let cells = Practice::CELLS;
+    let boxes = Practice::BOXES;
     say::text(b"open with ");
     say::text(name);
-    let before = answers::whole(state, rows, log);
-    answers::say_running(Session::open(Kept::YARD, 0, &cells, &boxes, state, rows, log));
-    say::ended(before, answers::whole(state, rows, log));
+    let answer = Session::open(Practice::YARD, 0, &cells, &boxes, state, rows, log);
+    answers::say_running(answer);
+    say::text(b"\n");
 }
 
 fn sessions() {
     say::title(b"14: the session or a buffer isn't sound");
     let k = twelve();
-    let lever = k.with_state([0, 256, 0, 0, 10]);
-    digest(b"lever 10", lever);
-    lever.shown(1);
-    bytes(lever.reading(0), b"7 bytes", b"\0\0\0\0\0\x01\0").digest();
-    digest(b"speed 201", k.with_state([0, 256, 201, 0, 0]));
-    digest(b"x 513, in the wall", k.with_state([513, 256, 0, 0, 0]));
-    digest(b"a last log byte of 1", k.with_last(1));
-    counts(k);
-    k.digest();
+    lever_ten(k.with_state([0, 256, 0, 0, 10]));
+    say::text(b"speed 201, ");
+    k.with_state([0, 256, 201, 0, 0]).digest();
+    say::text(b"in the wall, ");
+    k.with_state([513, 256, 0, 0, 0]).digest();
+    say::text(b"a last log byte of 1, ");
+    k.with_last(1).digest();
+    two_carriers(k);
+    held(k, 0);
+    held(k, 2);
+    held(k, 2_049);
+    held(k, 1);
 }
 
-// One record is held.
-fn counts(k: Kept) {
+fn lever_ten(k: Practice) {
+    say::text(b"lever 10, ");
+    k.digest();
+    k.shown(1);
+    bytes(k.reading(0), b"7 bytes", b"\0\0\0\0\0\x01\0").digest();
+}
+
+fn two_carriers(k: Practice) {
     let yard = Yard { w: 4, h: 3, b: 2 };
     let clock = k.session.clock;
-    digest(b"held 0", k.with_held(0));
-    digest(b"held 2", k.with_held(2));
-    digest(b"held 2049", k.with_held(2_049));
-    digest(
-        b"B 2",
-        k.with_session(Session {
-            yard,
-            clock,
-            held: 1,
-        }),
-    );
+    let held = k.session.held;
+    say::text(b"B 2, ");
+    k.with_session(Session { yard, clock, held }).digest();
 }
 
-fn digest(name: &[u8], k: Kept) {
-    say::text(name);
+fn held(k: Practice, held: usize) {
+    say::named(b"held", held as u64);
     say::text(b", ");
-    k.digest();
+    k.with_held(held).digest();
 }
 
 fn clocks() {
     say::title(b"14: the clock's words");
     let k = twelve();
-    clock(k, b"as it is", 250_000, 10_000, 0, 12);
-    clock(k, b"cut 1", 250_000, 10_000, 1, 12);
-    clock(k, b"last 250001", 250_001, 10_000, 0, 12);
-    clock(k, b"remainder 30000", 250_000, 30_000, 0, 11);
-    clock(k, b"steps 180001", 3_600_020_000, 0, 0, 180_001);
-    clock(k, b"steps 180000", 3_600_000_000, 0, 0, 180_000);
+    clock(k, 250_000, 10_000, 0, 12);
+    clock(k, 250_000, 10_000, 1, 12);
+    clock(k, 250_001, 10_000, 0, 12);
+    clock(k, 250_000, 30_000, 0, 11);
+    clock(k, 3_600_020_000, 0, 0, 180_001);
+    clock(k, 3_600_000_000, 0, 0, 180_000);
 }
 
-fn clock(k: Kept, name: &[u8], last: u64, remainder: u64, cut: u64, steps: u64) {
+fn clock(k: Practice, last: u64, remainder: u64, cut: u64, steps: u64) {
     let clock = Clock {
         first: 0,
         last,
@@ -186,7 +176,10 @@ fn clock(k: Kept, name: &[u8], last: u64, remainder: u64, cut: u64, steps: u64) 
         cut,
         steps,
     };
-    digest(name, k.with_clock(clock));
+    say::named(b"last", last);
+    say::words(clock);
+    say::text(b", ");
+    k.with_clock(clock).digest();
 }
 
 fn rows() {

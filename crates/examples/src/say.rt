@@ -1,4 +1,4 @@
-// What is written: texts, numbers, and the numbers of document 01's table by name.
+// What is written: texts, numbers, words of a clock, bit patterns.
 use clock::Clock;
 use libc::STDOUT_FILENO;
 use shown::Place;
@@ -29,6 +29,7 @@ pub fn hex(name: &[u8], value: u32) {
     io::print_hex(STDOUT_FILENO, value as u64, 8);
 }
 
+// What a reading changes beside the last reading.
 pub fn words(clock: Clock) {
     named(b" steps", clock.steps);
     named(b" remainder", clock.remainder);
@@ -52,23 +53,9 @@ fn pattern(x: f64) {
     }
 }
 
+// A refusal by its number in document 01's table.
 pub fn refused(number: u8) {
-    match number {
-        2 => text(b" 2 MALFORMED"),
-        3 => text(b" 3 CARRIER"),
-        4 => text(b" 4 LEVER"),
-        5 => text(b" 5 STEP"),
-        6 => text(b" 6 CONFLICT"),
-        7 => text(b" 7 LATE"),
-        8 => text(b" 8 FULL"),
-        9 => text(b" 9 WORLD"),
-        10 => text(b" 10 ROOM"),
-        11 => text(b" 11 BACKWARD"),
-        12 => text(b" 12 END"),
-        13 => text(b" 13 LOG"),
-        14 => text(b" 14 FAULT"),
-        _ => text(b" no number of the table"),
-    }
+    named(b" refused", number as u64);
 }
 
 // The end of a line: whether the lent bytes and words have the digest that they had.

@@ -5,10 +5,10 @@ use Rattle.examples.proofs.late.filled.Statement.{statement}
 use Rattle.examples.proofs.late.filled.Tie as tie
 
 abbrev Inv-loop : tie.InvT-loop
-Inv-loop kept₀ step₀ kept step = step ≤ 2148
+Inv-loop k₀ step₀ k step = step ≤ 2148
 
 abbrev μ-loop : tie.MeasureT-loop
-μ-loop kept₀ step₀ kept step = 2148 - step
+μ-loop k₀ step₀ k step = 2148 - step
 
 loop-holds : tie.Need-loop-holds Inv-loop μ-loop
 loop-holds c = search needs

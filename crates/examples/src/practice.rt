@@ -1,7 +1,6 @@
 // The practice yard of document 01: its session with all that is lent, and a line for each call.
 use super::answers;
 use super::say;
-use clock::Clock;
 use digest::Digest;
 use record::Record;
 use session::Delivered;
@@ -10,7 +9,8 @@ use session::Running;
 use session::Session;
 use yard::Yard;
 
-pub struct Kept {
+// The buffers go by value with the session: each call lends them, and gives back what it left.
+pub struct Practice {
     pub session: Session,
     pub state: [i32; 5],
     pub rows: [i32; 320],
@@ -18,18 +18,18 @@ pub struct Kept {
 }
 
 // What a reading leaves, and what it answers.
-struct Read {
-    kept: Kept,
+struct AfterReading {
+    left: Practice,
     answer: Running,
 }
 
 // What a delivery leaves, and what it answers.
-struct Handed {
-    kept: Kept,
+struct AfterDelivery {
+    left: Practice,
     answer: Delivered,
 }
 
-impl Kept {
+impl Practice {
     // 'W 4, H 3 .. one carrier'.
     pub const YARD: Yard = Yard { w: 4, h: 3, b: 1 };
     // 'the only wall at column 3, row 1'.
@@ -38,19 +38,19 @@ impl Kept {
     pub const BOXES: [i32; 4] = [0, 256, 256, 256];
 
     // The practice yard, opened on buffers full of sevens.
-    pub fn open(first: u64) -> Kept {
-        let cells = Kept::CELLS;
-        let boxes = Kept::BOXES;
+    pub fn open(first: u64) -> Practice {
+        let cells = Practice::CELLS;
+        let boxes = Practice::BOXES;
         say::named(b"open the practice yard at", first);
-        Kept::sevens().opened(Kept::YARD, first, &cells, &boxes)
+        Practice::sevens().opened(Practice::YARD, first, &cells, &boxes)
     }
 
-    fn sevens() -> Kept {
-        let session = answers::closed(Kept::YARD);
+    fn sevens() -> Practice {
+        let session = answers::closed(Practice::YARD);
         let state = [7i32; 5];
         let rows = [7i32; 320];
         let log = [7u8; 16_384];
-        Kept {
+        Practice {
             session,
             state,
             rows,
@@ -59,89 +59,89 @@ impl Kept {
     }
 
     // Opening of any world, on the buffers as they are; its name is already written.
-    pub fn opened(self, yard: Yard, first: u64, cells: &[u8], boxes: &[i32]) -> Kept {
+    pub fn opened(self, yard: Yard, first: u64, cells: &[u8], boxes: &[i32]) -> Practice {
         let old = self.session;
         let mut state = self.state;
         let mut rows = self.rows;
         let mut log = self.log;
         let answer = Session::open(yard, first, cells, boxes, &mut state, &mut rows, &mut log);
         let session = answers::running(answer, old);
-        let kept = Kept {
+        let left = Practice {
             session,
             state,
             rows,
             log,
         };
         answers::say_running(answer);
-        say::ended(self.whole(), kept.whole());
-        kept
+        say::ended(self.whole(), left.whole());
+        left
     }
 
-    fn read(self, reading: u64) -> Read {
+    fn read(self, reading: u64) -> AfterReading {
         let old = self.session;
-        let cells = Kept::CELLS;
-        let boxes = Kept::BOXES;
+        let cells = Practice::CELLS;
+        let boxes = Practice::BOXES;
         let mut state = self.state;
         let mut rows = self.rows;
         let log = self.log;
         let answer = old.reading(reading, &cells, &boxes, &mut state, &mut rows, &log);
         let session = answers::running(answer, old);
-        let kept = Kept {
+        let left = Practice {
             session,
             state,
             rows,
             log,
         };
-        Read { kept, answer }
+        AfterReading { left, answer }
     }
 
-    pub fn reading(self, reading: u64) -> Kept {
-        let read = self.read(reading);
-        let kept = read.kept;
-        let answer = read.answer;
+    pub fn reading(self, reading: u64) -> Practice {
+        let after = self.read(reading);
+        let left = after.left;
+        let answer = after.answer;
         say::named(b"reading", reading);
         answers::say_running(answer);
-        say::ended(self.whole(), kept.whole());
-        kept
+        say::ended(self.whole(), left.whole());
+        left
     }
 
     // 100 steps made; a line for the last reading alone.
-    pub fn hundred(self) -> Kept {
-        let first = self.read(250_000).kept.read(500_000).kept;
-        let half = first.read(750_000).kept.read(1_000_000).kept;
-        let most = half.read(1_250_000).kept.read(1_500_000).kept;
-        most.read(1_750_000).kept.reading(2_000_000)
+    pub fn hundred(self) -> Practice {
+        let first = self.read(250_000).left.read(500_000).left;
+        let half = first.read(750_000).left.read(1_000_000).left;
+        let most = half.read(1_250_000).left.read(1_500_000).left;
+        most.read(1_750_000).left.reading(2_000_000)
     }
 
-    fn handed(self, bytes: &[u8]) -> Handed {
+    fn handed(self, bytes: &[u8]) -> AfterDelivery {
         let old = self.session;
-        let cells = Kept::CELLS;
-        let boxes = Kept::BOXES;
+        let cells = Practice::CELLS;
+        let boxes = Practice::BOXES;
         let mut state = self.state;
         let mut rows = self.rows;
         let mut log = self.log;
         let answer = old.deliver(bytes, &cells, &boxes, &mut state, &mut rows, &mut log);
         let session = answers::delivered(answer, old);
-        let kept = Kept {
+        let left = Practice {
             session,
             state,
             rows,
             log,
         };
-        Handed { kept, answer }
+        AfterDelivery { left, answer }
     }
 
     // A delivery of any bytes; its name is already written.
-    pub fn bytes(self, bytes: &[u8]) -> Kept {
-        let handed = self.handed(bytes);
-        let kept = handed.kept;
-        let answer = handed.answer;
+    pub fn bytes(self, bytes: &[u8]) -> Practice {
+        let after = self.handed(bytes);
+        let left = after.left;
+        let answer = after.answer;
         answers::say_delivered(answer);
-        say::ended(self.whole(), kept.whole());
-        kept
+        say::ended(self.whole(), left.whole());
+        left
     }
 
-    pub fn deliver(self, step: u32, carrier: u8, lever: u8) -> Kept {
+    pub fn deliver(self, step: u32, carrier: u8, lever: u8) -> Practice {
         let r = Record {
             step,
             carrier,
@@ -153,9 +153,9 @@ impl Kept {
     }
 
     // A delivery with no line.
-    pub fn put(self, r: Record) -> Kept {
+    pub fn put(self, r: Record) -> Practice {
         let bytes = record::bytes_of(r);
-        self.handed(&bytes).kept
+        self.handed(&bytes).left
     }
 
     fn whole(self) -> u32 {
@@ -166,8 +166,8 @@ impl Kept {
     }
 
     pub fn digest(self) {
-        let cells = Kept::CELLS;
-        let boxes = Kept::BOXES;
+        let cells = Practice::CELLS;
+        let boxes = Practice::BOXES;
         let state = self.state;
         let rows = self.rows;
         let log = self.log;
@@ -178,8 +178,8 @@ impl Kept {
     }
 
     pub fn shown(self, carrier: u32) {
-        let cells = Kept::CELLS;
-        let boxes = Kept::BOXES;
+        let cells = Practice::CELLS;
+        let boxes = Practice::BOXES;
         let state = self.state;
         let rows = self.rows;
         let log = self.log;
@@ -192,74 +192,6 @@ impl Kept {
         let log = self.log;
         replay_front(steps, &log, self.session.held);
     }
-
-    pub fn with_session(self, session: Session) -> Kept {
-        let state = self.state;
-        let rows = self.rows;
-        let log = self.log;
-        Kept {
-            session,
-            state,
-            rows,
-            log,
-        }
-    }
-
-    pub fn with_clock(self, clock: Clock) -> Kept {
-        let yard = self.session.yard;
-        let held = self.session.held;
-        self.with_session(Session { yard, clock, held })
-    }
-
-    pub fn with_held(self, held: usize) -> Kept {
-        let yard = self.session.yard;
-        let clock = self.session.clock;
-        self.with_session(Session { yard, clock, held })
-    }
-
-    pub fn with_state(self, state: [i32; 5]) -> Kept {
-        let session = self.session;
-        let rows = self.rows;
-        let log = self.log;
-        Kept {
-            session,
-            state,
-            rows,
-            log,
-        }
-    }
-
-    // Another lever in a row.
-    pub fn with_row(self, row: usize, lever: i32) -> Kept {
-        let session = self.session;
-        let state = self.state;
-        let mut rows = self.rows;
-        let log = self.log;
-        if row < 64 {
-            rows[5 * row + 4] = lever;
-        }
-        Kept {
-            session,
-            state,
-            rows,
-            log,
-        }
-    }
-
-    // Another last byte of the log.
-    pub fn with_last(self, byte: u8) -> Kept {
-        let session = self.session;
-        let state = self.state;
-        let rows = self.rows;
-        let mut log = self.log;
-        log[16_383] = byte;
-        Kept {
-            session,
-            state,
-            rows,
-            log,
-        }
-    }
 }
 
 fn replay_front(steps: u32, log: &[u8], held: usize) {
@@ -270,11 +202,11 @@ fn replay_front(steps: u32, log: &[u8], held: usize) {
 
 // A log replayed in the practice yard: the digest is of the steps and the state.
 pub fn replay(steps: u32, log: &[u8]) {
-    let cells = Kept::CELLS;
-    let boxes = Kept::BOXES;
+    let cells = Practice::CELLS;
+    let boxes = Practice::BOXES;
     let mut state = [7i32; 5];
     let before = Digest::of_state(steps, &state).value;
-    let answer = session::replay(Kept::YARD, steps, &cells, &boxes, &mut state, log);
+    let answer = session::replay(Practice::YARD, steps, &cells, &boxes, &mut state, log);
     let after = Digest::of_state(steps, &state).value;
     say::named(b"replay", steps as u64);
     say::named(b" of bytes", log.len() as u64);
