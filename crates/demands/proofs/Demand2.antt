@@ -11,7 +11,7 @@ use lib.IntN.{ℤ, pos}
 use lib.ListN.{length, take, replicate}
 use lib.Seq.{take-at}
 use Rattle.basis.specs.Numbers.{stepLength}
-use Rattle.basis.specs.Order.{accepted, answer}
+use Rattle.basis.specs.Order.{accepted, answer, andThen}
 use Rattle.basis.proofs.Order.{passes, gives}
 use Rattle.record.specs.Log.{logOf, recordsOf}
 use Rattle.record.specs.Held.{bufferOf}
@@ -32,6 +32,7 @@ use Rattle.course.specs.Calls.{reading, delivery}
 use Rattle.course.proofs.Kept.{Kept, good-after, no-fault}
 use Rattle.course.proofs.Words.{flat-length}
 use Rattle.session.specs.Sound.{worldRoom}
+use Rattle.session.specs.Calls.{worldOrder}
 use Rattle.session.specs.Calls.{replayOrder, digestOrder, shownOrder, shownOf, previous}
 use Rattle.demands.specs.Handed.{Handed, lentIn, heldBy, moved}
 use Rattle.demands.specs.Statements.{Demand2}
@@ -61,7 +62,7 @@ module _ (world : World) (opens : Opens world) (s : Session (model world)) (k : 
   replays : (state : List ℤ) → length state ≡ stateWords world
       → answer (replayOrder (world .yard) (s .clock .steps) (world .cells) (world .boxes) state
       (take (8 * length (s .log)) (bufferOf (s .log)))) ≡ accepted (s .made .state)
-  unfolding replayOrder worldRoom answer
+  unfolding replayOrder worldOrder worldRoom andThen answer
   replays state long =
       rw (
         front,

@@ -6,7 +6,6 @@ use native.Mathlib.Omega.{arith}
 use lib.IntN.{ℤ, pos}
 use lib.ListN.{length, replicate}
 use Rattle.basis.specs.Order.{Answer, refused, accepted, answer}
-use Rattle.basis.proofs.Order.{held, given}
 use Rattle.record.specs.Held.{bufferOf}
 use Rattle.fleet.specs.State.{World}
 use Rattle.course.specs.Session.{Session, opening}
@@ -16,8 +15,8 @@ use Rattle.course.specs.Calls.{Reached as ModelReached}
 use Rattle.course.proofs.Kept.{Kept, kept-opening, kept-next, kept-run}
 use Rattle.course.proofs.Words.{flatten-replicate}
 use Rattle.session.specs.Lent.{Lent, lent, leaves}
-use Rattle.session.specs.Calls.{openOrder, opened as openedWords}
 use Rattle.session.proofs.Room.{room-says}
+use Rattle.session.proofs.Openings.{opened-says}
 use Rattle.demands.specs.Handed.{Handed, lentIn, sessionOf, standing, next, run}
 use Rattle.demands.specs.Handed.{Opened, Reached}
 use Rattle.demands.proofs.Model.{Opens, model, lawful}
@@ -65,35 +64,18 @@ module _ {world : World} {first : ℕ} {h : Handed} (o : Opened world first h) w
   abbrev lentThen : Lent
   lentThen = lent (world .cells) (world .boxes) (o .state) (o .rows) (o .log)
 
-  -- Each test of the order passed, and this was given.
-  record Passed : Type 0 where
-    opens : Opens world
-    gave : openedWords (world .yard) first lentThen ≡ h
-
-  passed : Passed
-  unfolding openOrder
-  passed =
-      let a = held _ _ _ (o .accepts) in
-      let b = held _ _ _ (a .1) in
-      let c = held _ _ _ (b .1) in
-      let d = held _ _ _ (c .1) in
-      let e = held _ _ _ (d .1) in
-      let room = room-says (world .yard) lentThen (b .0) in
-      record {
-        opens =
-            record {
-              ranges = a .0;
-              laid = room .world .cells;
-              room = room .world .boxes;
-              cells = c .0;
-              sizes = d .0;
-              starts = e .0;
-            };
-        gave = given _ (e .1);
-      }
-
   pub opens : Opens world
-  opens = passed .opens
+  opens =
+      let passes = opened-says _ first lentThen (o .accepts) .0 in
+      let room = room-says (world .yard) lentThen (passes .long) in
+      record {
+        ranges = passes .ranges;
+        laid = room .world .cells;
+        room = room .world .boxes;
+        cells = passes .cell;
+        sizes = passes .sizes;
+        starts = passes .starts;
+      }
 
   pub opened-words : handed world (opening (model world) first) ≡ h
   unfolding bufferOf
@@ -102,7 +84,7 @@ module _ {world : World} {first : ℕ} {h : Handed} (o : Opened world first h) w
       ≡ replicate (320 * world .yard .b) (pos 0) =
       let all : 64 * (5 * world .yard .b) ≡ 320 * world .yard .b = omega arith in
       flatten-replicate (5 * world .yard .b) 64 (pos 0) ∙ rw all in
-      rw rows (passed .gave)
+      rw rows (opened-says _ first lentThen (o .accepts) .1)
 
 -- The session of the model that has the words of this one.
 pub record Modelled (world : World) (first : ℕ) (calls : List Call) (h : Handed) : Type 0 where

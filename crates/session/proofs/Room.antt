@@ -1,5 +1,5 @@
 -- Rule 10's lengths: each way through the test, and what it says.
-use Prim.Native.Nat.{ℕ, _*_, _<_, _≤_, _^_}
+use Prim.Native.Nat.{ℕ, _*_, _-_, _<_, _≤_, _^_}
 use mathlib.Core.Path.{_≡_, refl, sym, _∙_}
 use mathlib.Core.List.{List}
 use mathlib.Core.Bool.{Bool, true, false, _&&_}
@@ -28,9 +28,11 @@ module _ (yard : Yard) (e : rangesHold yard ≡ true) where
   pub carriers-most : yard .b ≤ 32
   carriers-most = boxes-fit yard e (replicate (4 * yard .b) (pos 0)) (length-replicate _ _) .b
 
-  pub cells-most : yard .w * yard .h ≤ 4096
-  cells-most =
-      omega (arith, mul-le-mul-left (yard .w) height-most, mul-le-mul-right 64 width-most)
+-- A product of two u32 is a usize.
+pub area-fits : (w h : ℕ) → w < 2 ^ 32 → h < 2 ^ 32 → w * h < 2 ^ 64
+area-fits w h a b =
+    let row : w * h ≤ w * (2 ^ 32 - 1) = mul-le-mul-left w (omega (arith, b)) in
+    omega (arith, row, a)
 
 module _ (yard : Yard) (cells boxes state : ℕ) where
   pub cells-wrong : (cells ≡ yard .w * yard .h → ⊥) → worldRoom yard cells boxes state ≡ false

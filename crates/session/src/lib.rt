@@ -1,4 +1,5 @@
 // A session: opening, reading, delivery, replay, digest and shown place, over lent words and bytes.
+//   worlds   rule 10's lengths, and opening's order of a world
 //   sound    document 01's *Sound*, of any session and any buffers
 //   open     opening
 //   reading  a clock reading
@@ -12,6 +13,7 @@ mod reading;
 mod replays;
 mod show;
 mod sound;
+mod worlds;
 
 use clock::Clock;
 pub use replays::replay;

@@ -7,17 +7,14 @@ ghost use Rattle.session.specs.Calls.{openOrder};
 ghost use Rattle.session.specs.Lent.{Lent, leaves, left, lent};
 use super::Running;
 use super::Session;
-use super::sound::has_room;
-use basis::Number;
+use super::worlds::Checked;
+use super::worlds::check_world;
+use super::worlds::has_room;
 use clock::Clock;
 use fleet::clear_rows;
 use fleet::start;
 use record::clear;
 use yard::Yard;
-use yard::cells_hold;
-use yard::ranges_hold;
-use yard::sizes_hold;
-use yard::starts_hold;
 
 impl Session {
     // A session of a world, from its first reading; or 9 or 10, and nothing written.
@@ -37,28 +34,19 @@ impl Session {
             left (runningOf r) (now (state .exit)) (now (rows .exit)) (now (log .exit))
             ≡ leaves l (answer (openOrder yard reading l))) ⌝ }
     {
-        if !ranges_hold(yard) {
-            return Running::Refused(Number::WORLD);
+        let lengths = has_room(yard, cells, boxes, state, rows, log);
+        match check_world(yard, lengths, cells, boxes) {
+            Checked::Refused(number) => Running::Refused(number),
+            Checked::Passed => {
+                start(yard, boxes, state);
+                clear_rows(rows);
+                clear(log);
+                Running::Open(Session {
+                    yard,
+                    clock: Clock::new(reading),
+                    held: 0,
+                })
+            }
         }
-        if !has_room(yard, cells, boxes, state, rows, log) {
-            return Running::Refused(Number::ROOM);
-        }
-        if !cells_hold(cells) {
-            return Running::Refused(Number::WORLD);
-        }
-        if !sizes_hold(yard, boxes) {
-            return Running::Refused(Number::WORLD);
-        }
-        if !starts_hold(yard, cells, boxes) {
-            return Running::Refused(Number::WORLD);
-        }
-        start(yard, boxes, state);
-        clear_rows(rows);
-        clear(log);
-        Running::Open(Session {
-            yard,
-            clock: Clock::new(reading),
-            held: 0,
-        })
     }
 }

@@ -15,7 +15,7 @@ unfolding sound
 returns c = rw (failed (c .before .ranges-hold .ensures) (c .if1 .taken))
 
 has-room-requires : tie.Need-has-room-requires
-has-room-requires c κs = passed (c .before .ranges-hold .ensures) (c .if1 .left)
+has-room-requires c κs = search needs
 
 returns-2 : tie.Need-returns-2
 unfolding sound

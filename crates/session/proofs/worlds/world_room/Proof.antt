@@ -1,10 +1,10 @@
--- `sound::world_room` meets its contract.
+-- `worlds::world_room` meets its contract.
 use mathlib.Core.Path.{sym}
 use native.Mathlib.Omega.{arith}
 use borrow.Author.Needs.{needs}
-use Rattle.session.proofs.Room.{cells-most, cells-wrong, boxes-wrong, state-decides}
-use Rattle.session.proofs.sound.world_room.Statement.{statement}
-use Rattle.session.proofs.sound.world_room.Tie as tie
+use Rattle.session.proofs.Room.{area-fits, cells-wrong, boxes-wrong, state-decides}
+use Rattle.session.proofs.worlds.world_room.Statement.{statement}
+use Rattle.session.proofs.worlds.world_room.Tie as tie
 
 cast-w : tie.Need-cast-w
 cast-w c = search needs
@@ -16,9 +16,7 @@ cast-b : tie.Need-cast-b
 cast-b c = search needs
 
 mul-if1 : tie.Need-mul-if1
-mul-if1 c =
-    let s = c .before .before .before in
-    omega (arith, cells-most (s .args .yard) (s .pre))
+mul-if1 c = record { fits = area-fits _ _ (search needs) (search needs) }
 
 returns : tie.Need-returns
 returns c = sym (cells-wrong _ _ _ _ (c .if1 .taken))

@@ -1,11 +1,11 @@
--- `sound::has_room` meets its contract.
+-- `worlds::has_room` meets its contract.
 use mathlib.Core.Path.{sym}
 use native.Mathlib.Omega.{arith}
 use borrow.Author.Needs.{needs}
 use Rattle.session.proofs.Room.{world-wrong, rows-wrong, log-decides}
 use Rattle.yard.proofs.Cases.{passed, failed}
-use Rattle.session.proofs.sound.has_room.Statement.{statement}
-use Rattle.session.proofs.sound.has_room.Tie as tie
+use Rattle.session.proofs.worlds.has_room.Statement.{statement}
+use Rattle.session.proofs.worlds.has_room.Tie as tie
 
 cast-b : tie.Need-cast-b
 cast-b c = search needs

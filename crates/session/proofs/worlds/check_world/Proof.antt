@@ -1,0 +1,114 @@
+-- `worlds::check_world` meets its contract.
+use mathlib.Core.Bool.{true}
+use mathlib.Core.Path.{_≡_}
+use borrow.Author.Needs.{needs}
+use borrow.Author.Tests.{not-true, not-false}
+use Rattle.basis.specs.Order.{answer}
+use Rattle.yard.specs.Rule9.{rangesHold}
+use Rattle.yard.proofs.Cases.{passed, failed}
+use Rattle.yard.proofs.Fits.{cells-fit, boxes-fit}
+use Rattle.session.specs.Calls.{worldOrder}
+use Rattle.session.proofs.worlds.check_world.Statement.{statement}
+use Rattle.session.proofs.worlds.check_world.Tie as tie
+
+-- The ranges hold, and the lengths do.
+abbrev start : tie.Else1 → tie.Start
+start e = e .before .before .before
+
+in-range : (e : tie.Else1) → rangesHold (start e .args .yard) ≡ true
+in-range e = passed (e .before .ranges-hold .ensures) (e .if1 .left)
+
+long : (e : tie.Else2) → start (e .before) .args .lengths ≡ true
+long e = not-false _ (e .if2 .left)
+
+ranges-hold-requires : tie.Need-ranges-hold-requires
+ranges-hold-requires c κs = search needs
+
+returns : tie.Need-returns
+unfolding worldOrder answer
+returns c = rw (failed (c .before .ranges-hold .ensures) (c .if1 .taken))
+
+returns-2 : tie.Need-returns-2
+unfolding worldOrder answer
+returns-2 c =
+    rw (in-range (c .before), not-true (start (c .before) .args .lengths) (c .if2 .taken))
+
+cells-hold-requires : tie.Need-cells-hold-requires
+cells-hold-requires c κs = search needs
+
+returns-3 : tie.Need-returns-3
+unfolding worldOrder answer
+returns-3 c =
+    let e = c .before .before in
+    rw (in-range (e .before), long e, failed (c .before .cells-hold .ensures) (c .if3 .taken))
+
+sizes-hold-requires : tie.Need-sizes-hold-requires
+sizes-hold-requires c κs =
+    let e = c .before .before in
+    boxes-fit _ (in-range (e .before)) _ (start (e .before) .pre (long e) .1)
+
+returns-4 : tie.Need-returns-4
+unfolding worldOrder answer
+returns-4 c =
+    let third = c .before .before in
+    let e = third .before .before in
+    rw (
+      in-range (e .before),
+      long e,
+      passed (third .before .cells-hold .ensures) (third .if3 .left),
+      failed (c .before .sizes-hold .ensures) (c .if4 .taken),
+    )
+
+starts-hold-requires : tie.Need-starts-hold-requires
+starts-hold-requires c κs =
+    let e = c .before .before .before .before in
+    let room = start (e .before) .pre (long e) in (
+      cells-fit _ (in-range (e .before)) _ (room .0),
+      (
+        boxes-fit _ (in-range (e .before)) _ (room .1),
+        passed (c .before .sizes-hold .ensures) (c .if4 .left),
+      ),
+    )
+
+returns-5 : tie.Need-returns-5
+unfolding worldOrder answer
+returns-5 c =
+    let fourth = c .before .before in
+    let third = fourth .before .before in
+    let e = third .before .before in
+    rw (
+      in-range (e .before),
+      long e,
+      passed (third .before .cells-hold .ensures) (third .if3 .left),
+      passed (fourth .before .sizes-hold .ensures) (fourth .if4 .left),
+      failed (c .before .starts-hold .ensures) (c .if5 .taken),
+    )
+
+returns-6 : tie.Need-returns-6
+unfolding worldOrder answer
+returns-6 c =
+    let fourth = c .before .before in
+    let third = fourth .before .before in
+    let e = third .before .before in
+    rw (
+      in-range (e .before),
+      long e,
+      passed (third .before .cells-hold .ensures) (third .if3 .left),
+      passed (fourth .before .sizes-hold .ensures) (fourth .if4 .left),
+      passed (c .before .starts-hold .ensures) (c .if5 .left),
+    )
+
+pub check-world-spec : {M : Type 1} → statement M
+check-world-spec =
+    tie.close
+    (tie.spec
+    ranges-hold-requires
+    returns
+    returns-2
+    cells-hold-requires
+    returns-3
+    sizes-hold-requires
+    returns-4
+    starts-hold-requires
+    returns-5
+    returns-6)
