@@ -1,4 +1,17 @@
 -- Laws of the fleet, for the crates above.
+--   Words       the words of a carrier, in and out of a state
+--   Carriers    one carrier of a state: put in, free, and the state rule kept
+--   Starts      the start is sound
+--   Soundness   the state rule read both ways
+--   Steps       one step of all: each carrier is moved once
+--   Joined      runs joined, sound, and moved by no record of another step
+--   Rows        where a row stands, what saving one leaves, what a run leaves
+--   Statements  the statements of specs/Statements.antt
 pub mod Words
 pub mod Carriers
+pub mod Starts
+pub mod Soundness
+pub mod Steps
+pub mod Joined
 pub mod Rows
+pub mod Statements
