@@ -6,6 +6,7 @@
 --   Steps       one step of all: each carrier is moved once
 --   Joined      runs joined, sound, and moved by no record of another step
 --   Rows        where a row stands, what saving one leaves, what a run leaves
+--   Examples    the practice yard, computed
 --   Statements  the statements of specs/Statements.antt
 pub mod Words
 pub mod Carriers
@@ -14,4 +15,5 @@ pub mod Soundness
 pub mod Steps
 pub mod Joined
 pub mod Rows
+pub mod Examples
 pub mod Statements
