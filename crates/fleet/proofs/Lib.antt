@@ -1,7 +1,7 @@
 -- Laws of the fleet, for the crates above.
 --   Words       the words of a carrier, in and out of a state
 --   Carriers    one carrier of a state: put in, free, and the state rule kept
---   Starts      the start is sound
+--   Starts      the start is sound, a sound log fits
 --   Soundness   the state rule read both ways
 --   Steps       one step of all: each carrier is moved once
 --   Joined      runs joined, sound, and moved by no record of another step

@@ -1,5 +1,6 @@
--- The start: each carrier at rest where the world puts it, so sound where rule 9 accepts it.
-use Prim.Native.Nat.{ℕ, zero, suc, _+_, _*_, _<_}
+-- The start: each carrier at rest where the world puts it, so sound where rule 9 accepts it; and a
+-- log that rule 13 accepts fits.
+use Prim.Native.Nat.{ℕ, zero, suc, _+_, _*_, _/_, _<_}
 use mathlib.Core.Path.{_≡_, _∙_}
 use mathlib.Core.List.{List}
 use mathlib.Core.Logic.{⊎-elim}
@@ -7,8 +8,10 @@ use mathlib.Core.Bool.{true}
 use native.Mathlib.Nat.{eq-or-lt-of-le, le-of-suc-le-suc}
 use native.Mathlib.Omega.{arith}
 use lib.IntN.{ℤ, pos}
-use lib.ListN.{List·getD-append}
+use lib.ListN.{length, List·getD-append}
 use lib.Seq.{getD-append-add}
+use Rattle.record.specs.Log.{soundLog}
+use Rattle.record.proofs.Logs.{sound}
 use Rattle.yard.specs.declared.world.Yard.{Yard}
 use Rattle.yard.specs.declared.carrier.Carrier.{Carrier}
 use Rattle.yard.specs.World.{word}
@@ -19,7 +22,7 @@ use Rattle.yard.proofs.Fits.{start-free}
 use Rattle.yard.proofs.Soundness.{rest-sound}
 use Rattle.fleet.specs.State.{World, worldOf, carrier, wordsOf, freeFor, soundState, startTo}
 use Rattle.fleet.specs.State.{startState}
-use Rattle.fleet.specs.Fits.{StateFits}
+use Rattle.fleet.specs.Fits.{LogFits, StateFits}
 use Rattle.fleet.proofs.Words.{same-words, carrier-is, length-start}
 
 -- Carrier i as it starts.
@@ -72,3 +75,10 @@ start-fits yard cells boxes e =
       room = length-start boxes (yard .b);
       sound = start-sound (worldOf yard cells boxes) e;
     }
+
+-- A log that rule 13 lets pass, whole.
+pub log-fits : (world : World) (log : List ℕ) → soundLog (world .yard .b) log ≡ true
+    → LogFits world (length log / 8) log
+log-fits world log e =
+    let s = sound (world .yard .b) log e in
+    record { few = s .few; room = omega arith; unrefused = s .unrefused; ascends = s .ascends }
