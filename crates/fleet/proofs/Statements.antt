@@ -1,11 +1,9 @@
 -- The statements of specs/Statements.antt, proved.
 use Rattle.record.proofs.Logs.{all-within}
-use Rattle.fleet.specs.Statements.{Words, FreeFor, Start, StateRule, OneStep}
-use Rattle.fleet.specs.Statements.{Runs, SavedRows}
+use Rattle.fleet.specs.Statements.{Words, FreeFor, Start, StateRule, OneStep, Runs, SavedRows}
 use Rattle.fleet.proofs.Words.{only-carriers, length-put, length-start}
-use Rattle.fleet.proofs.Carriers.{carrier-put, carrier-other}
+use Rattle.fleet.proofs.Carriers.{carrier-put, carrier-other, all-keeps, step-keeps}
 use Rattle.fleet.proofs.Carriers.{free-in-yard, free-own, free-stays}
-use Rattle.fleet.proofs.Carriers.{all-keeps, step-keeps}
 use Rattle.fleet.proofs.Starts.{carrier-start, start-sound}
 use Rattle.fleet.proofs.Soundness.{sound-each, each-sound}
 use Rattle.fleet.proofs.Steps.{each-moved, same-all}
