@@ -6,6 +6,7 @@
 --   Steps       one step of all: each carrier is moved once
 --   Joined      runs joined, sound, and moved by no record of another step
 --   Rows        where a row stands, what saving one leaves, what a run leaves
+--   Back        going back is as if the records had been held before
 --   Examples    the practice yard, computed
 --   Statements  the statements of specs/Statements.antt
 pub mod Words
@@ -15,5 +16,6 @@ pub mod Soundness
 pub mod Steps
 pub mod Joined
 pub mod Rows
+pub mod Back
 pub mod Examples
 pub mod Statements

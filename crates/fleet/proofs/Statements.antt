@@ -1,6 +1,7 @@
 -- The statements of specs/Statements.antt, proved.
 use Rattle.record.proofs.Logs.{all-within}
 use Rattle.fleet.specs.Statements.{Words, FreeFor, Start, StateRule, OneStep, Runs, SavedRows}
+use Rattle.fleet.specs.Statements.{GoingBack}
 use Rattle.fleet.proofs.Words.{only-carriers, length-put, length-start}
 use Rattle.fleet.proofs.Carriers.{carrier-put, carrier-other, all-keeps, step-keeps}
 use Rattle.fleet.proofs.Carriers.{free-in-yard, free-own, free-stays}
@@ -9,7 +10,8 @@ use Rattle.fleet.proofs.Soundness.{sound-each, each-sound}
 use Rattle.fleet.proofs.Steps.{each-moved, same-all}
 use Rattle.fleet.proofs.Joined.{joined, joined-saving, saving-state, run-keeps}
 use Rattle.fleet.proofs.Joined.{same-run, same-saving}
-use Rattle.fleet.proofs.Rows.{rows-fit, rows-made, rows-earlier}
+use Rattle.fleet.proofs.Rows.{course-fits, rows-made, rows-earlier}
+use Rattle.fleet.proofs.Back.{back-state, back-row}
 
 pub words : Words
 words =
@@ -66,7 +68,10 @@ runs =
 pub savedRows : SavedRows
 savedRows =
     record {
-      room = λ world list t k course wide fit. rows-fit world list t course wide fit k;
-      row = λ world list t k course wide fit s. rows-made world list t course wide fit k s;
-      earlier = λ world list t k course wide fit s. rows-earlier world list t course wide fit k s;
+      room = λ world list t k course fits. course-fits world list t course fits k;
+      row = λ world list t k course fits. rows-made world list t course fits k;
+      earlier = λ world list t k course fits. rows-earlier world list t course fits k;
     }
+
+pub goingBack : GoingBack
+goingBack = record { state = back-state; row = back-row }

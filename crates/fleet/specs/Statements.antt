@@ -18,7 +18,7 @@ use Rattle.yard.specs.Step.{LeverFits, atRest, step}
 use Rattle.fleet.specs.State.{World, carrierWords, stateWords, carrier, put, freeFor}
 use Rattle.fleet.specs.State.{soundState, startState}
 use Rattle.fleet.specs.Step.{heldOf, stepTo, stepAll, stepAt}
-use Rattle.fleet.specs.Run.{Course, run, runSaving, rowCount, rowOf}
+use Rattle.fleet.specs.Run.{Course, courseOf, run, runSaving, rowCount, rowOf}
 use Rattle.fleet.specs.Fits.{LogFits, StateFits, RowsFit}
 
 -- 'five i32 words for each carrier, in carrier order': a carrier put in its place.
@@ -142,21 +142,49 @@ pub record Runs : Type 0 where
       → Agree world t k list other
       → runSaving world list t k course ≡ runSaving world other t k course
 
+-- A state and saved rows of the right length.
+pub record CourseFits (world : World) (course : Course) : Type 0 where
+  pub state : length (course .state) ≡ stateWords world
+  pub rows : RowsFit world (course .rows)
+
 -- 'Going back': what k steps from step t on leave in the saved rows.
 pub record SavedRows : Type 0 where
   -- 'The saved rows are 64 states, 320·B words', and stay so.
   pub room : (world : World) (list : List Record) (t k : ℕ) (course : Course)
-      → length (course .state) ≡ stateWords world → RowsFit world (course .rows)
-      → RowsFit world (runSaving world list t k course .rows)
+      → CourseFits world course → CourseFits world (runSaving world list t k course)
   -- 'row t mod 64 holds the state before step t for the last 64 steps made', of those made here.
   pub row : (world : World) (list : List Record) (t k : ℕ) (course : Course)
-      → length (course .state) ≡ stateWords world → RowsFit world (course .rows)
+      → CourseFits world course
       → (s : ℕ) → t ≤ s → s < t + k → t + k ≤ s + rowCount
       → rowOf (stateWords world) s (runSaving world list t k course .rows)
       ≡ run world list t (s - t) (course .state)
   -- Of those made before, the row is as it was.
   pub earlier : (world : World) (list : List Record) (t k : ℕ) (course : Course)
-      → length (course .state) ≡ stateWords world → RowsFit world (course .rows)
+      → CourseFits world course
       → (s : ℕ) → s < t → t + k ≤ s + rowCount
       → rowOf (stateWords world) s (runSaving world list t k course .rows)
       ≡ rowOf (stateWords world) s (course .rows)
+
+-- 'the state before step t is brought back, and steps t to n-1 are made again', for step s of n.
+abbrev pub goBack : World → List Record → ℕ → ℕ → Course → Course
+goBack world list s n course =
+    runSaving world list s (n - s)
+    (courseOf (rowOf (stateWords world) s (course .rows)) (course .rows))
+
+-- 'Going back' to step s, one of the last 64 of k steps from step t on, under other records that
+-- hold the same levers below step s.
+pub record GoingBack : Type 0 where
+  -- The state is as if the other records had been held from step t on.
+  pub state : (world : World) (list other : List Record) (t k : ℕ) (course : Course)
+      → CourseFits world course
+      → (s : ℕ) → t ≤ s → s < t + k → t + k ≤ s + rowCount → Agree world t (s - t) list other
+      → goBack world other s (t + k) (runSaving world list t k course) .state
+      ≡ run world other t k (course .state)
+  -- 'rows included': so is the row of each of the last 64 steps, r among them.
+  pub row : (world : World) (list other : List Record) (t k : ℕ) (course : Course)
+      → CourseFits world course
+      → (s : ℕ) → t ≤ s → s < t + k → t + k ≤ s + rowCount → Agree world t (s - t) list other
+      → (r : ℕ) → t ≤ r → r < t + k → t + k ≤ r + rowCount
+      → rowOf (stateWords world) r
+      (goBack world other s (t + k) (runSaving world list t k course) .rows)
+      ≡ run world other t (r - t) (course .state)
