@@ -1,7 +1,8 @@
 -- The statements of specs/Statements.antt, proved.
+use mathlib.Core.Path.{sym, _∙_}
 use Rattle.record.proofs.Logs.{all-within}
 use Rattle.fleet.specs.Statements.{Words, FreeFor, Start, StateRule, OneStep, Runs, SavedRows}
-use Rattle.fleet.specs.Statements.{GoingBack}
+use Rattle.fleet.specs.Statements.{Determined, GoingBack}
 use Rattle.fleet.proofs.Words.{only-carriers, length-put, length-start}
 use Rattle.fleet.proofs.Carriers.{carrier-put, carrier-other, all-keeps, step-keeps}
 use Rattle.fleet.proofs.Carriers.{free-in-yard, free-own, free-stays}
@@ -12,6 +13,9 @@ use Rattle.fleet.proofs.Joined.{joined, joined-saving, saving-state, ru
 use Rattle.fleet.proofs.Joined.{same-run, same-saving}
 use Rattle.fleet.proofs.Rows.{course-fits, rows-made, rows-earlier}
 use Rattle.fleet.proofs.Back.{back-state, back-row}
+
+pub determined : Determined
+determined = record { cleared = λ rows p q. p ∙ sym q }
 
 pub words : Words
 words =

@@ -6,7 +6,7 @@ use mathlib.Core.Bool.{true}
 use mathlib.Core.List.{List}
 use mathlib.Core.Option.{Option}
 use lib.IntN.{ℤ, pos, natAbs}
-use lib.ListN.{length}
+use lib.ListN.{length, replicate}
 use Rattle.record.specs.declared.bytes.Record.{Record}
 use Rattle.record.specs.Log.{records}
 use Rattle.record.specs.Held.{leverAt}
@@ -20,6 +20,12 @@ use Rattle.fleet.specs.State.{soundState, startState}
 use Rattle.fleet.specs.Step.{heldOf, stepTo, stepAll, stepAt}
 use Rattle.fleet.specs.Run.{Course, courseOf, run, runSaving, rowCount, rowOf}
 use Rattle.fleet.specs.Fits.{LogFits, StateFits, RowsFit}
+
+-- 'any two outcomes allowed by it coincide', for the contract of the one public entry.
+pub record Determined : Type 0 where
+  -- `clear_rows`
+  pub cleared : (rows : List ℤ) {a b : List ℤ} → a ≡ replicate (length rows) (pos 0)
+      → b ≡ replicate (length rows) (pos 0) → a ≡ b
 
 -- 'five i32 words for each carrier, in carrier order': a carrier put in its place.
 pub record Words : Type 0 where
