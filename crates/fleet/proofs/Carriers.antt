@@ -1,16 +1,14 @@
 -- One carrier of a state: what is put in is got out, the others stay, and the state rule is kept.
 use Prim.Native.Nat.{ℕ, zero, suc, _+_, _*_, _<_, _≤_}
-use mathlib.Core.Path.{_≡_, refl, sym, ap, _∙_, subst}
-use mathlib.Core.Logic.{_≢_, ⊎-elim}
-use mathlib.Core.List.{List, [], _∷_}
-use mathlib.Core.Option.{Option, none, some}
+use mathlib.Core.Path.{_≡_, refl, _∙_}
+use mathlib.Core.Logic.{_≢_}
+use mathlib.Core.List.{List}
+use mathlib.Core.Option.{Option, some}
 use mathlib.Core.Bool.{Bool, true, false, cond, _&&_}
-use native.Mathlib.Nat.{eq-or-lt-of-le, add-zero}
 use native.Mathlib.Omega.{arith}
 use lib.IntN.{ℤ, pos}
-use lib.ListN.{length, getD}
+use lib.ListN.{length}
 use lib.Dec.{eqb, ltb}
-use lib.Seq.{paste}
 use borrow.Author.Tests.{eqb-true, eqb-false, ltb-true, ltb-false}
 use Rattle.basis.proofs.Lists.{paste-at, paste-before, paste-after}
 use Rattle.record.specs.Held.{leverAt}
@@ -18,71 +16,80 @@ use Rattle.record.specs.declared.bytes.Record.{Record}
 use Rattle.record.proofs.Logs.{AllWithin, done, more}
 use Rattle.yard.specs.declared.carrier.Carrier.{Carrier}
 use Rattle.yard.specs.declared.carrier.Held.{Held}
+use Rattle.yard.specs.World.{sizeOf}
+use Rattle.yard.specs.Free.{free}
 use Rattle.yard.specs.Step.{LeverFits, step, sound}
 use Rattle.yard.proofs.Every.{all-pass, passes}
-use Rattle.yard.proofs.Soundness.{good-of, step-sound}
-use Rattle.fleet.specs.State.{World, carrier, wordsOf, put, freeFor, soundState, stateWords}
+use Rattle.yard.proofs.Soundness.{good-of, of-good, step-sound}
+use Rattle.fleet.specs.State.{World, carrier, wordsOf, put, freeFor, soundState}
 use Rattle.fleet.specs.Step.{stepOne, stepTo, stepAll, stepAt, heldOf}
 use Rattle.fleet.specs.Fits.{StateFits}
-use Rattle.fleet.proofs.Words.{length-put}
+use Rattle.fleet.specs.Statements.{EachFree}
+use Rattle.fleet.proofs.Words.{same-words, carrier-is, length-put}
 
 module _ (i : ℕ) (c : Carrier) (state : List ℤ) (room : 5 * i + 5 ≤ length state) where
-  word : (k : ℕ) → k < 5 → getD (put i c state) (5 * i + k) (pos 0) ≡ getD (wordsOf c) k (pos 0)
-  unfolding put wordsOf
-  word k h = paste-at state (5 * i) (wordsOf c) 5 (pos 0) room (omega arith) k h
-
   pub carrier-put : carrier i (put i c state) ≡ c
-  unfolding carrier wordsOf
+  unfolding put wordsOf
   carrier-put =
-      let x : getD (put i c state) (5 * i) (pos 0) ≡ c .x =
-      rw (add-zero (5 * i)) at (word 0 (omega arith)) in
-      rw (x, word 1 (omega arith), word 2 (omega arith), word 3 (omega arith), word 4 (omega arith))
-
-  -- A word outside carrier i's.
-  before-word : (j : ℕ) → j < 5 * i → getD (put i c state) j (pos 0) ≡ getD state j (pos 0)
-  unfolding put wordsOf
-  before-word j h = paste-before state (5 * i) (wordsOf c) 5 (pos 0) room (omega arith) j h
-
-  after-word : (j : ℕ) → 5 * i + 5 ≤ j → getD (put i c state) j (pos 0) ≡ getD state j (pos 0)
-  unfolding put wordsOf
-  after-word j h = paste-after state (5 * i) (wordsOf c) 5 (pos 0) room (omega arith) j h
+      carrier-is i c (put i c state)
+      (λ j h. paste-at state (5 * i) (wordsOf c) 5 (pos 0) room (omega arith) j h)
 
   pub carrier-other : (k : ℕ) → i ≢ k → carrier k (put i c state) ≡ carrier k state
-  unfolding carrier
+  unfolding put wordsOf
   carrier-other k d = go (ltb k i) refl
     where
       go : (t : Bool) → ltb k i ≡ t → carrier k (put i c state) ≡ carrier k state
       go true e =
           let h : k < i = ltb-true k i e in
-          rw (
-            before-word (5 * k) (omega arith),
-            before-word (5 * k + 1) (omega arith),
-            before-word (5 * k + 2) (omega arith),
-            before-word (5 * k + 3) (omega arith),
-            before-word (5 * k + 4) (omega arith),
-          )
+          same-words k k (put i c state) state
+          (λ j l.
+          paste-before state (5 * i) (wordsOf c) 5 (pos 0) room (omega arith) (5 * k + j)
+          (omega arith))
       go false e =
-          let h : i ≤ k = ltb-false k i e in
-          rw (
-            after-word (5 * k) (omega (arith, d)),
-            after-word (5 * k + 1) (omega (arith, d)),
-            after-word (5 * k + 2) (omega (arith, d)),
-            after-word (5 * k + 3) (omega (arith, d)),
-            after-word (5 * k + 4) (omega (arith, d)),
-          )
+          let h : i < k = omega (arith, d, ltb-false k i e) in
+          same-words k k (put i c state) state
+          (λ j l.
+          paste-after state (5 * i) (wordsOf c) 5 (pos 0) room (omega arith) (5 * k + j)
+          (omega arith))
 
--- Where carrier i is free: its own words play no part, and putting it leaves the others as free as
--- they were.
-pub free-own : (world : World) (i : ℕ) (c : Carrier) (state : List ℤ)
-    → freeFor world i (put i c state) ≡ freeFor world i state
+pub free-in-yard : (world : World) (i : ℕ) (state : List ℤ) (x y : ℤ)
+    → freeFor world i state x y ≡ true
+    → free (world .yard) (world .cells) (sizeOf (world .boxes) i) x y ≡ true
 unfolding freeFor
-free-own world i c state = refl
+free-in-yard world i state x y h = h
 
-pub free-others : (world : World) (i k : ℕ) (c : Carrier) (state : List ℤ)
-    → freeFor world i state (c .x) (c .y) ≡ true
-    → freeFor world k (put i c state) ≡ freeFor world k state
-unfolding freeFor
-free-others world i k c state h = refl
+-- Where carrier i is free its own words play no part; put at a place that is free for it, it leaves
+-- every carrier free.
+module _ (world : World) (i : ℕ) (c : Carrier) (state : List ℤ)
+    (room : 5 * i + 5 ≤ length state) where
+  pub free-own : (x y : ℤ) → freeFor world i (put i c state) x y ≡ freeFor world i state x y
+  unfolding freeFor
+  free-own x y = refl
+
+  pub free-stays : EachFree world state → freeFor world i state (c .x) (c .y) ≡ true
+      → EachFree world (put i c state)
+  unfolding freeFor
+  free-stays each here k l = go (eqb i k) refl
+    where
+      go : (t : Bool) → eqb i k ≡ t
+          → freeFor world k (put i c state)
+          (carrier k (put i c state) .x) (carrier k (put i c state) .y)
+          ≡ true
+      go true e = rw (← eqb-true i k e, carrier-put i c state room) here
+      go false e = rw (carrier-other i c state room k (eqb-false i k e)) (each k l)
+
+-- A sound carrier is sound wherever its place is free.
+same-rule : (free other : ℤ → ℤ → Bool) (c : Carrier) → sound free c ≡ true
+    → other (c .x) (c .y) ≡ true → sound other c ≡ true
+same-rule free other c e here =
+    let g = good-of free c e in
+    of-good other c (record { here = here; u = g .u; v = g .v; lever = g .lever })
+
+-- Every carrier of a sound state is free.
+pub each-free : (world : World) (state : List ℤ) → soundState world state ≡ true
+    → EachFree world state
+unfolding soundState
+each-free world state e i l = good-of _ _ (passes _ _ e i l) .here
 
 -- A carrier's step keeps the state rule.
 module _ (world : World) (held : Held) (i : ℕ) (state : List ℤ) (h : i < world .yard .b)
@@ -90,33 +97,37 @@ module _ (world : World) (held : Held) (i : ℕ) (state : List ℤ) (h : i < wor
   room : 5 * i + 5 ≤ length state
   room = omega (arith, s .room)
 
+  moved : Carrier
+  moved = step (freeFor world i state) held (carrier i state)
+
   -- The carrier that is put in is sound where it stands.
-  stepped : sound (freeFor world i state) (step (freeFor world i state) held (carrier i state))
-      ≡ true
-  unfolding soundState
+  stepped : sound (freeFor world i state) moved ≡ true
+  unfolding soundState moved
   stepped =
       step-sound (freeFor world i state) held (carrier i state) fits (passes _ _ (s .sound) i h)
 
+  all-free : EachFree world (put i moved state)
+  all-free =
+      free-stays world i moved state room (each-free world state (s .sound))
+      (good-of _ _ stepped .here)
+
   each : (k : ℕ) → k < world .yard .b
-      → sound (freeFor world k (stepOne world held i state))
-      (carrier k (stepOne world held i state)) ≡ true
-  unfolding stepOne soundState
+      → sound (freeFor world k (put i moved state)) (carrier k (put i moved state)) ≡ true
+  unfolding soundState
   each k l = go (eqb i k) refl
     where
       go : (t : Bool) → eqb i k ≡ t
-          → sound (freeFor world k (stepOne world held i state))
-          (carrier k (stepOne world held i state)) ≡ true
+          → sound (freeFor world k (put i moved state)) (carrier k (put i moved state)) ≡ true
       go true e =
-          let c : Carrier = step (freeFor world i state) held (carrier i state) in
-          rw (← eqb-true i k e, free-own world i c state, carrier-put i c state room) stepped
+          same-rule (freeFor world i state) _ _
+          (rw (← eqb-true i k e, carrier-put i moved state room) stepped) (all-free k l)
       go false e =
-          let c : Carrier = step (freeFor world i state) held (carrier i state) in
-          let here = good-of (freeFor world i state) c stepped .here in
-          rw (free-others world i k c state here, carrier-other i c state room k (eqb-false i k e))
-          (passes _ _ (s .sound) k l)
+          same-rule (freeFor world k state) _ _
+          (rw (carrier-other i moved state room k (eqb-false i k e)) (passes _ _ (s .sound) k l))
+          (all-free k l)
 
   pub one-keeps : StateFits world (stepOne world held i state)
-  unfolding stepOne soundState
+  unfolding stepOne soundState moved
   one-keeps = record { room = length-put i _ state room ∙ s .room; sound = all-pass _ _ each }
 
 -- The steps of the carriers below i keep it, and so does a step of all.

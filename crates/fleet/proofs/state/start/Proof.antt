@@ -1,13 +1,9 @@
 -- `state::start` meets its contract.
 use Prim.Native.Nat.{_≤_, _*_, _-_, _+_}
 use mathlib.Core.List.{_++_, append-nil}
-use mathlib.Core.List.{_++_}
 use mathlib.Core.Path.{_≡_, refl, _∙_}
-use mathlib.Core.Path.{_≡_}
 use native.Mathlib.Omega.{arith}
-use lib.ListN.{drop-of-length-le}
-use lib.ListN.{length, drop}
-use lib.ListN.{length}
+use lib.ListN.{drop-of-length-le, length, drop}
 use denote.Ref.{now}
 use borrow.Author.Needs.{needs}
 use Rattle.fleet.proofs.Words.{start-on}

@@ -1,10 +1,7 @@
 -- `state::state_sound` meets its contract.
 use Prim.Native.Nat.{ℕ, _-_, _<_, _≤_}
-use Prim.Native.Nat.{_≤_, _-_, _<_}
 use mathlib.Core.Path.{_≡_, sym, _∙_}
 use mathlib.Core.Bool.{true}
-use mathlib.Core.Path.{_≡_, sym}
-use mathlib.Core.Path.{_≡_}
 use native.Mathlib.Omega.{arith}
 use denote.Ref.{now}
 use borrow.Author.Count.{below-none, below-more}
