@@ -1,6 +1,6 @@
 -- A world that opening accepts, as a world of the model `course`: lawful, its states of one width.
-use Prim.Native.Nat.{ℕ, zero, suc, _+_, _*_, _≤_}
-use mathlib.Core.Path.{_≡_, refl, sym, _∙_}
+use Prim.Native.Nat.{ℕ, _*_, _≤_}
+use mathlib.Core.Path.{_≡_, refl}
 use mathlib.Core.Bool.{Bool, true, _&&_}
 use mathlib.Core.List.{List}
 use mathlib.Core.Option.{Option, none, some}
@@ -14,15 +14,15 @@ use Rattle.basis.proofs.Tests.{and-left, and-right, and-both}
 use Rattle.yard.specs.Step.{LeverFits}
 use Rattle.yard.specs.Rule9.{rangesHold, cellsHold, sizesHold, startsHold}
 use Rattle.fleet.specs.State.{World, stateWords, soundState, startState}
-use Rattle.fleet.specs.Step.{heldOf, stepOne, stepTo, stepAll}
+use Rattle.fleet.specs.Step.{heldOf, stepAll}
 use Rattle.fleet.specs.Fits.{StateFits}
-use Rattle.fleet.proofs.Words.{length-put}
+use Rattle.fleet.proofs.Steps.{length-all}
 use Rattle.fleet.proofs.Carriers.{all-keeps}
 use Rattle.course.specs.World.{Lawful}
 use Rattle.course.specs.World as course
 use Rattle.course.specs.Words.{WordWorld, worldOf, Sized}
 use Rattle.session.proofs.Room.{carriers-most}
-use Rattle.session.proofs.Starts.{start-fits}
+use Rattle.fleet.proofs.Starts.{start-fits}
 
 -- What opening asks of a world: ranges, lengths, cells, sizes, starts.
 pub record Opens (world : World) : Type 0 where
@@ -65,27 +65,12 @@ pub fits-fitting : {world : World} {state : List ℤ} → StateFits world state
     → fitting world state ≡ true
 fits-fitting s = and-both (eq-eqb _ _ (s .room)) (s .sound)
 
--- A step keeps the number of words.
-length-to : (world : World) (levers : ℕ → Option ℕ) (state : List ℤ) (i : ℕ)
-    → 5 * i ≤ length state → length (stepTo world levers i state) ≡ length state
-unfolding stepTo stepOne
-length-to world levers state zero h = refl
-length-to world levers state (suc i) h =
-    let before = length-to world levers state i (omega arith) in
-    length-put i _ (stepTo world levers i state) (omega (arith, before)) ∙ before
-
 module _ (world : World) (opens : Opens world) where
   pub starts : StateFits world (startState world)
   starts = start-fits (world .yard) (world .cells) (world .boxes) (opens .starts)
 
   pub sized : Sized (words world)
-  unfolding stepAll
-  sized =
-      record {
-        start = starts .room;
-        step = λ levers state e.
-            length-to world levers state (world .yard .b) (omega (arith, e)) ∙ e;
-      }
+  sized = record { start = starts .room; step = length-all world }
 
   -- Levers of at most 9 are such as a carrier's step may be given.
   lever-fits : (lever : Option ℕ) → ((n : ℕ) → lever ≡ some n → n ≤ mostLever)

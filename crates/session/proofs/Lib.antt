@@ -4,5 +4,4 @@ pub mod Openings
 pub mod Good
 pub mod Readings
 pub mod Deliveries
-pub mod Starts
 pub mod Showing
