@@ -1,0 +1,7 @@
+-- Document 01, 'The program'. Read in this order:
+--   Input     how much of standard input was read
+--   Practice  the practice yard, as a world
+--   Rerun     what a log comes to there
+pub mod Input
+pub mod Practice
+pub mod Rerun
