@@ -1,0 +1,82 @@
+-- The functions of the C face: document 01's orders, and the lengths that the face adds to them.
+use Prim.Native.Nat.{ℕ, _+_}
+use mathlib.Core.Bool.{cond}
+use mathlib.Core.List.{List, [], _∷_}
+use lib.Dec.{eqb}
+use lib.Ieee.{Float}
+use lib.IntN.{ℤ}
+use lib.ListN.{length}
+use Rattle.basis.specs.Numbers.{WORLD, ROOM, FAULT, mostCarriers}
+use Rattle.basis.specs.Order.{Order, check, give, andThen}
+use Rattle.record.specs.Bytes.{bytesOf, readOrder, writeOrder}
+use Rattle.record.specs.Log.{soundLog}
+use Rattle.record.specs.Part.{partStart, partLength}
+use Rattle.yard.specs.Rule9.{rangesHold}
+use Rattle.yard.specs.declared.world.Yard.{Yard}
+use Rattle.session.specs.Calls.{Delivery, openOrder, readingOrder, deliverOrder, digestOrder}
+use Rattle.session.specs.Calls.{shownOrder}
+use Rattle.session.specs.Lent.{Lent, Made}
+use Rattle.session.specs.declared.Session.{Session}
+use Rattle.station.specs.Words.{sessionOf, nine}
+
+-- W, H and B.
+abbrev pub yardOf : ℕ → ℕ → ℕ → Yard
+yardOf w h b = record { w = w; h = h; b = b }
+
+-- `wuthracomb_log_sound`: 1 or 0.
+abbrev pub logSound : List ℕ → ℕ
+logSound log = cond (soundLog mostCarriers log) 1 0
+
+-- `wuthracomb_step_records`: the start and the end of the part, in bytes, into two words.
+unfoldable pub stepRecordsFace : List ℕ → ℕ → List ℕ → Order (List ℕ)
+stepRecordsFace log step out =
+    check (eqb (length out) 2) ROOM
+    (give (partStart step log ∷ (partStart step log + partLength step log) ∷ []))
+
+-- `wuthracomb_read_record`: the record's three numbers, into three words.
+unfoldable pub readRecordFace : List ℕ → List ℕ → Order (List ℕ)
+readRecordFace bytes out =
+    andThen (readOrder mostCarriers bytes)
+    (λ r. check (eqb (length out) 3) ROOM
+    (give (r .step ∷ r .carrier ∷ r .lever ∷ [])))
+
+-- `wuthracomb_write_record`: the eight bytes of the record.
+unfoldable pub writeRecordFace : ℕ → ℕ → ℕ → List ℕ → Order (List ℕ)
+writeRecordFace step carrier lever out =
+    andThen (writeOrder step carrier lever)
+    (λ r. check (eqb (length out) 8) ROOM
+    (give (bytesOf r)))
+
+-- `wuthracomb_open`: the session's length among the other lengths.
+unfoldable pub openFace : Yard → ℕ → Lent → List ℕ → Order (Made Session)
+openFace yard reading l words =
+    check (rangesHold yard) WORLD
+    (check (nine words) ROOM
+    (openOrder yard reading l))
+
+-- `wuthracomb_reading`, `wuthracomb_deliver`: 14 for a session that isn't nine words.
+unfoldable pub readingFace : ℕ → Lent → List ℕ → Order (Made Session)
+readingFace reading l words =
+    check (nine words) FAULT
+    (readingOrder (sessionOf words) l reading)
+
+unfoldable pub deliverFace : List ℕ → Lent → List ℕ → Order (Made Delivery)
+deliverFace bytes l words =
+    check (nine words) FAULT
+    (deliverOrder (sessionOf words) l bytes)
+
+-- `wuthracomb_digest`: the digest, into one word.
+unfoldable pub digestFace : Lent → List ℕ → List ℕ → Order (List ℕ)
+digestFace l words out =
+    check (eqb (length out) 1) FAULT
+    (check (nine words) FAULT
+    (andThen (digestOrder (sessionOf words) l)
+    (λ value. give (value ∷ []))))
+
+-- `wuthracomb_shown`: the shown place, x and y, into two f64.
+unfoldable pub shownFace : ℕ → Lent → List ℕ → List Float → Order (List Float)
+shownFace carrier l words out =
+    check (eqb (length out) 2) FAULT
+    (check (nine words) FAULT
+    (andThen (shownOrder (sessionOf words) l carrier)
+    (λ place. give (place .x ∷ place .y ∷ []))))
