@@ -1,4 +1,6 @@
 -- Laws of the C face.
 pub mod Stores
-pub mod OneRecord
 pub mod Sessions
+pub mod OneRecord
+pub mod Showing
+pub mod Leaving

@@ -17,10 +17,18 @@ use Rattle.session.proofs.Room.{width-most, height-most, carriers-most}
 use Rattle.station.specs.Words.{sessionOf, nine, fitsU32, wordsFit}
 
 module _ (words : List ℕ) where
+  pub fit-nine : wordsFit words ≡ true → nine words ≡ true
+  unfolding wordsFit
+  fit-nine e =
+      let w = fitsU32 (getD words 0 0) in
+      let h = fitsU32 (getD words 1 0) in
+      and-left (nine words) w
+      (and-left (nine words && w) h
+      (and-left (nine words && w && h) (fitsU32 (getD words 2 0)) e))
+
   -- Words that fit are nine, and W, H and B are u32.
   pub fit : wordsFit words ≡ true
-      → (nine words ≡ true)
-      × (length words ≡ 9)
+      → (length words ≡ 9)
       × (getD words 0 0 < 2 ^ 32)
       × (getD words 1 0 < 2 ^ 32)
       × (getD words 2 0 < 2 ^ 32)
@@ -30,11 +38,9 @@ module _ (words : List ℕ) where
       let w = fitsU32 (getD words 0 0) in
       let h = fitsU32 (getD words 1 0) in
       let b = fitsU32 (getD words 2 0) in
-      let three = and-left (n && w && h) b e in
-      let two = and-left (n && w) h three in (
-        and-left n w two,
-        eqb-true _ _ (and-left n w two),
-        ltb-true _ _ (and-right n w two),
+      let three = and-left (n && w && h) b e in (
+        eqb-true _ _ (fit-nine e),
+        ltb-true _ _ (and-right n w (and-left (n && w) h three)),
         ltb-true _ _ (and-right (n && w) h three),
         ltb-true _ _ (and-right (n && w && h) b e),
       )

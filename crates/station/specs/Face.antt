@@ -17,6 +17,7 @@ use Rattle.session.specs.Calls.{Delivery, openOrder, readingOrder, deliverOrder
 use Rattle.session.specs.Calls.{shownOrder}
 use Rattle.session.specs.Lent.{Lent, Made}
 use Rattle.session.specs.declared.Session.{Session}
+use Rattle.shown.specs.declared.Place.{Place}
 use Rattle.station.specs.Words.{sessionOf, nine}
 
 -- W, H and B.
@@ -65,18 +66,22 @@ deliverFace bytes l words =
     check (nine words) FAULT
     (deliverOrder (sessionOf words) l bytes)
 
+-- A call that only shows something of a session, into a slice of so many: 14 for another length,
+-- first.
+unfoldable pub shows : {A B : Type 0} → ℕ → List B → List ℕ → Order A → (A → List B)
+    → Order (List B)
+shows count out words order parts =
+    check (eqb (length out) count) FAULT
+    (check (nine words) FAULT
+    (andThen order (λ a. give (parts a))))
+
 -- `wuthracomb_digest`: the digest, into one word.
 unfoldable pub digestFace : Lent → List ℕ → List ℕ → Order (List ℕ)
 digestFace l words out =
-    check (eqb (length out) 1) FAULT
-    (check (nine words) FAULT
-    (andThen (digestOrder (sessionOf words) l)
-    (λ value. give (value ∷ []))))
+    shows 1 out words (digestOrder (sessionOf words) l) (λ value. value ∷ [])
 
 -- `wuthracomb_shown`: the shown place, x and y, into two f64.
 unfoldable pub shownFace : ℕ → Lent → List ℕ → List Float → Order (List Float)
 shownFace carrier l words out =
-    check (eqb (length out) 2) FAULT
-    (check (nine words) FAULT
-    (andThen (shownOrder (sessionOf words) l carrier)
-    (λ place. give (place .x ∷ place .y ∷ []))))
+    shows 2 out words (shownOrder (sessionOf words) l carrier)
+    (λ place. place .x ∷ place .y ∷ [])

@@ -39,11 +39,17 @@ abbrev pub left : ℕ → List ℤ → List ℤ → List ℕ → List ℕ → Le
 left number state rows log session =
     record { number = number; state = state; rows = rows; log = log; session = session }
 
+-- A refusal leaves all 'as before'; an accepted call leaves what it makes, and the words of its
+-- session.
+abbrev pub leaves : {A : Type 0} → (A → ℕ) → (A → Session) → Lent → List ℕ → Answer (Made A) → Left
+leaves numberOf sessionOf l words (refused number) =
+    left number (l .state) (l .rows) (l .log) words
+leaves numberOf sessionOf l words (accepted m) =
+    left (numberOf (m .result)) (m .state) (m .rows) (m .log) (wordsOf (sessionOf (m .result)))
+
 -- Opening and a reading: 255 and the session.
 abbrev pub leavesRunning : Lent → List ℕ → Answer (Made Session) → Left
-leavesRunning l words (refused number) = left number (l .state) (l .rows) (l .log) words
-leavesRunning l words (accepted m) =
-    left DONE (m .state) (m .rows) (m .log) (wordsOf (m .result))
+leavesRunning = leaves (λ session. DONE) (λ session. session)
 
 -- A delivery: 0 or 1, and the session.
 abbrev pub deliveredNumber : Delivery → ℕ
@@ -55,7 +61,4 @@ deliveredSession (taken session) = session
 deliveredSession (held session) = session
 
 abbrev pub leavesDelivered : Lent → List ℕ → Answer (Made Delivery) → Left
-leavesDelivered l words (refused number) = left number (l .state) (l .rows) (l .log) words
-leavesDelivered l words (accepted m) =
-    left (deliveredNumber (m .result)) (m .state) (m .rows) (m .log)
-    (wordsOf (deliveredSession (m .result)))
+leavesDelivered = leaves deliveredNumber deliveredSession
