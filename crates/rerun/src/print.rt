@@ -6,7 +6,7 @@ use crate::practice::Ended;
 use libc::STDOUT_FILENO;
 use session::Replayed;
 
-// '`steps N`, then a line `carrier x y u v lever` for each carrier'; or 'the one line `refused 13`'.
+// '`steps N`, then a line `carrier x y u v lever` for each carrier'; or the one line `refused N`.
 pub fn lines(ended: Ended) {
     let answer = ended.answer;
     let steps = ended.steps;

@@ -4,3 +4,4 @@ pub mod Sessions
 pub mod OneRecord
 pub mod Showing
 pub mod Leaving
+pub mod Statements

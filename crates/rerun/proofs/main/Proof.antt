@@ -10,7 +10,8 @@ use Rattle.rerun.proofs.main.Tie as tie
 
 -- What was read lies within the buffer.
 within : (c : tie.After-known-told)
-    → c .before .input .given .0 .0 ≤ length (c .before .before .before .before .read-input .last .0)
+    → c .before .input .given .0 .0
+    ≤ length (c .before .before .before .before .read-input .last .0)
 within c =
     let read = c .before .before .before .before .read-input in
     subst (λ r. ReadIn r (read .last .0)) (c .before .input .given .1) (read .ensures)

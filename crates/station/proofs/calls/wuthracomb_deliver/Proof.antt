@@ -1,5 +1,7 @@
 -- `wuthracomb_deliver` meets its contract.
 use mathlib.Core.Bool.{true}
+use Prim.Native.Nat.{ℕ}
+use mathlib.Core.List.{List}
 use mathlib.Core.Path.{_≡_, sym, ap, _∙_}
 use denote.Ref.{now}
 use Rattle.basis.specs.Order.{Answer, answer}
@@ -22,23 +24,31 @@ mem s =
     lent (now (s .args .cells)) (now (s .args .boxes)) (now (s .args .state)) (now (s .args .rows))
     (now (s .args .log))
 
-fits : (e : tie.Else1) → wordsFit (now (e .before .before .before .before .before .before .before .args .session)) ≡ true
+abbrev words : tie.Start → List ℕ
+words s = now (s .args .session)
+
+abbrev first : tie.Else1 → tie.Start
+first e = e .before .before .before .before .before .before .before
+
+fits : (e : tie.Else1) → wordsFit (words (first e)) ≡ true
 fits e = passed (e .before .words-fit .ensures) (e .if1 .left)
 
+abbrev tested : tie.After-deliver → tie.Else1
+tested d = d .before .before .before .before .before .before
+
 abbrev start : tie.After-deliver → tie.Start
-start d =
-    d.before .before .before .before .before .before .before .before .before .before .before .before .before
+start d = first (tested d)
 
 abbrev given : tie.Start → Answer (Made Delivery)
-given s = answer (deliverOrder (sessionOf (now (s .args .session))) (mem s) (now (s .args .bytes)))
+given s = answer (deliverOrder (sessionOf (words s)) (mem s) (now (s .args .bytes)))
 
 -- The words are nine.
 whole : (d : tie.After-deliver)
-    → leavesDelivered (mem (start d)) (now (start d .args .session)) (given (start d))
-    ≡ leavesDelivered (mem (start d)) (now (start d .args .session))
-    (answer (deliverFace (now (start d .args .bytes)) (mem (start d)) (now (start d .args .session))))
+    → leavesDelivered (mem (start d)) (words (start d)) (given (start d))
+    ≡ leavesDelivered (mem (start d)) (words (start d))
+    (answer (deliverFace (now (start d .args .bytes)) (mem (start d)) (words (start d))))
 unfolding deliverFace
-whole d = sym (ap (leavesDelivered _ _) (passes _ _ (fit-nine _ (fits (d .before .before .before .before .before .before)))))
+whole d = sym (ap (leavesDelivered _ _) (passes _ _ (fit-nine _ (fits (tested d)))))
 
 words-fit-requires : tie.Need-words-fit-requires
 words-fit-requires c κs = search needs
@@ -55,7 +65,8 @@ returns c =
     let f = c .before .before in
     rw (c .wide .ensures)
     (sym
-    (ap (leavesDelivered _ _) (unfit _ _ _ (failed (f .words-fit .ensures) (c .before .if1 .taken)))))
+    (ap (leavesDelivered _ _)
+    (unfit _ _ _ (failed (f .words-fit .ensures) (c .before .if1 .taken)))))
 
 session-of-requires : tie.Need-session-of-requires
 session-of-requires c κs = fit _ (fits (c .before))
@@ -73,7 +84,9 @@ enum-known-s : tie.Need-enum-known-s
 enum-known-s c = search needs
 
 put-session-requires : tie.Need-put-session-requires
-put-session-requires c κs = fit _ (fits (c .before .before .before .before .before .before .before .before .before .before .before .before .before .before)) .0
+put-session-requires c κs =
+    let d = c .before .before .before .before .before .before .before .before in
+    fit _ (fits (tested d)) .0
 
 wide-requires-3 : tie.Need-wide-requires-3
 wide-requires-3 c κs = search needs
@@ -82,7 +95,9 @@ enum-known-s-2 : tie.Need-enum-known-s-2
 enum-known-s-2 c = search needs
 
 put-session-requires-2 : tie.Need-put-session-requires-2
-put-session-requires-2 c κs = fit _ (fits (c .before .before .before .before .before .before .before .before .before .before .before .before .before .before)) .0
+put-session-requires-2 c κs =
+    let d = c .before .before .before .before .before .before .before .before in
+    fit _ (fits (tested d)) .0
 
 wide-requires-4 : tie.Need-wide-requires-4
 wide-requires-4 c κs = search needs
@@ -127,7 +142,7 @@ returns-3 c =
     let n = p .before .before .before in
     let d = n .before .before .before .before .before .before in
     rw (c .wide3 .ensures)
-    (leaves-accepted deliveredNumber deliveredSession (now (start d .args .session)) (mem (start d)) _
+    (leaves-accepted deliveredNumber deliveredSession (words (start d)) (mem (start d)) _
     (given (start d))
     (rw (d .before .before .before .before .session-of .ensures) at (d .deliver .ensures))
     (ap deliveredOf (n .s .given .1)) (p .put-session .ensures)
@@ -151,7 +166,7 @@ returns-4 c =
     let n = p .before .before .before in
     let d = n .before .before .before .before .before .before in
     rw (c .wide4 .ensures)
-    (leaves-accepted deliveredNumber deliveredSession (now (start d .args .session)) (mem (start d)) _
+    (leaves-accepted deliveredNumber deliveredSession (words (start d)) (mem (start d)) _
     (given (start d))
     (rw (d .before .before .before .before .session-of .ensures) at (d .deliver .ensures))
     (ap deliveredOf (n .s2 .given .1)) (p .put-session2 .ensures)

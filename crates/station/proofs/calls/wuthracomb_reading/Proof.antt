@@ -1,5 +1,7 @@
 -- `wuthracomb_reading` meets its contract.
 use mathlib.Core.Bool.{true}
+use Prim.Native.Nat.{ℕ}
+use mathlib.Core.List.{List}
 use mathlib.Core.Path.{_≡_, sym, ap, _∙_}
 use denote.Ref.{now}
 use Rattle.basis.specs.Order.{Answer, answer}
@@ -23,23 +25,31 @@ mem s =
     lent (now (s .args .cells)) (now (s .args .boxes)) (now (s .args .state)) (now (s .args .rows))
     (now (s .args .log))
 
-fits : (e : tie.Else1) → wordsFit (now (e .before .before .before .before .before .before .args .session)) ≡ true
+abbrev words : tie.Start → List ℕ
+words s = now (s .args .session)
+
+abbrev first : tie.Else1 → tie.Start
+first e = e .before .before .before .before .before .before
+
+fits : (e : tie.Else1) → wordsFit (words (first e)) ≡ true
 fits e = passed (e .before .words-fit .ensures) (e .if1 .left)
 
+abbrev tested : tie.After-reading → tie.Else1
+tested d = d .before .before .before .before .before
+
 abbrev start : tie.After-reading → tie.Start
-start d =
-    d.before .before .before .before .before .before .before .before .before .before .before
+start d = first (tested d)
 
 abbrev given : tie.Start → Answer (Made Session)
-given s = answer (readingOrder (sessionOf (now (s .args .session))) (mem s) (s .args .reading))
+given s = answer (readingOrder (sessionOf (words s)) (mem s) (s .args .reading))
 
 -- The words are nine.
 whole : (d : tie.After-reading)
-    → leavesRunning (mem (start d)) (now (start d .args .session)) (given (start d))
-    ≡ leavesRunning (mem (start d)) (now (start d .args .session))
-    (answer (readingFace (start d .args .reading) (mem (start d)) (now (start d .args .session))))
+    → leavesRunning (mem (start d)) (words (start d)) (given (start d))
+    ≡ leavesRunning (mem (start d)) (words (start d))
+    (answer (readingFace (start d .args .reading) (mem (start d)) (words (start d))))
 unfolding readingFace
-whole d = sym (ap (leavesRunning _ _) (passes _ _ (fit-nine _ (fits (d .before .before .before .before .before)))))
+whole d = sym (ap (leavesRunning _ _) (passes _ _ (fit-nine _ (fits (tested d)))))
 
 words-fit-requires : tie.Need-words-fit-requires
 words-fit-requires c κs = search needs
@@ -56,7 +66,8 @@ returns c =
     let f = c .before .before in
     rw (c .wide .ensures)
     (sym
-    (ap (leavesRunning _ _) (unfit _ _ _ (failed (f .words-fit .ensures) (c .before .if1 .taken)))))
+    (ap (leavesRunning _ _)
+    (unfit _ _ _ (failed (f .words-fit .ensures) (c .before .if1 .taken)))))
 
 session-of-requires : tie.Need-session-of-requires
 session-of-requires c κs = fit _ (fits (c .before))
@@ -74,7 +85,9 @@ enum-known-s : tie.Need-enum-known-s
 enum-known-s c = search needs
 
 put-session-requires : tie.Need-put-session-requires
-put-session-requires c κs = fit _ (fits (c .before .before .before .before .before .before .before .before .before .before .before)) .0
+put-session-requires c κs =
+    let d = c .before .before .before .before .before .before in
+    fit _ (fits (tested d)) .0
 
 same-length-2 : tie.Need-same-length-2
 same-length-2 c = search needs
@@ -110,7 +123,7 @@ returns-3 c =
     let p = c .before .before in
     let n = p .before .before .before in
     let d = n .before .before .before .before in
-    leaves-accepted (λ (x : Session). DONE) (λ (x : Session). x) (now (start d .args .session))
+    leaves-accepted (λ (x : Session). DONE) (λ (x : Session). x) (words (start d))
     (mem (start d)) _ (given (start d))
     (rw (d .before .before .before .session-of .ensures) at (d .reading .ensures))
     (ap runningOf (n .s .given .1)) (p .put-session .ensures)

@@ -53,7 +53,8 @@ returns-2 c =
     let f = c .before in
     let s = f .before .before .before .before in
     let a = s .before .args in
-    let p : f .before .place-of .result ≡ 256 * a .step = omega (arith, f .before .place-of .ensures) in
+    let p : f .before .place-of .result ≡ 256 * a .step =
+    omega (arith, f .before .place-of .ensures) in
     let bytes : Bytes (now (a .log)) = λ k. s .shared-slice-known .given k .fits in
     let e = is-sound (f .before .before) in (
       rw p at (ap (λ (n : ℕ). 8 * n) (f .first-from .ensures .0))

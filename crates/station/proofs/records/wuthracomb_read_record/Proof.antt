@@ -42,7 +42,9 @@ wide-requires-2 c κs = search needs
 returns : tie.Need-returns
 returns c =
     rw (c .wide2 .ensures)
-    (sym (ap (fills _) (read-no-room _ _ (accepts (c .before .before .before)) (c .before .if1 .taken))))
+    (sym
+    (ap (fills _)
+    (read-no-room _ _ (accepts (c .before .before .before)) (c .before .if1 .taken))))
 
 slice-write-out : tie.Need-slice-write-out
 slice-write-out c = search needs

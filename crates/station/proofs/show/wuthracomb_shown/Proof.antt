@@ -35,7 +35,8 @@ fits d = passed (d .before .before .before .words-fit .ensures) (d .before .befo
 -- The answer is of the session in the words.
 told : (d : tie.After-shown)
     → answerOf (d .shown .result)
-    ≡ answer (shownOrder (sessionOf (now (start d .args .session))) (mem (start d)) (start d .args .carrier))
+    ≡ answer (shownOrder (sessionOf (now (start d .args .session))) (mem (start d))
+    (start d .args .carrier))
 told d = rw (← d .before .session-of .ensures) (d .shown .ensures)
 
 wide-requires : tie.Need-wide-requires
@@ -103,7 +104,8 @@ returns-4 c =
     let n = c .before in
     let d = n .before .before in
     let out = now (start d .args .out) in
-    ap (filled DONE) (stores out (n .place .given .0 .0 .x ∷ n .place .given .0 .0 .y ∷ []) (long d))
+    let place = n .place .given .0 .0 in
+    ap (filled DONE) (stores out (place .x ∷ place .y ∷ []) (long d))
     ∙ sym
     (ap (fills out)
     (shows-given _ _ _ _ _ (long d) (fits d) (sym (told d) ∙ ap answerOf (n .place .given .1))))
