@@ -1,2 +1,4 @@
 -- Laws of the program's answer.
 pub mod Past
+pub mod Decimals
+pub mod Words

@@ -2,6 +2,8 @@
 --   Input     how much of standard input was read
 --   Practice  the practice yard, as a world
 --   Rerun     what a log comes to there
+--   Text      the lines that are written
 pub mod Input
 pub mod Practice
 pub mod Rerun
+pub mod Text

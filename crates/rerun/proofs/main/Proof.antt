@@ -1,10 +1,11 @@
 -- `main` is safe.
 use Prim.Native.Nat.{_≤_}
 use mathlib.Core.Path.{sym, subst}
+use native.Mathlib.Omega.{arith}
 use lib.ListN.{length}
 use lib.Seq.{length-take-le}
-use borrow.Author.Needs.{needs}
 use Rattle.rerun.specs.Input.{ReadIn}
+use borrow.Author.Needs.{needs}
 use Rattle.rerun.proofs.main.Statement.{statement}
 use Rattle.rerun.proofs.main.Tie as tie
 
@@ -28,23 +29,32 @@ enum-known-input c = search needs
 array-share-prefix-bytes : tie.Need-array-share-prefix-bytes
 array-share-prefix-bytes c = within c
 
-slice-aggregate-rerun : tie.Need-slice-aggregate-rerun
-slice-aggregate-rerun c = sym (length-take-le _ _ (within (c .before)))
+slice-aggregate-program : tie.Need-slice-aggregate-program
+slice-aggregate-program c = sym (length-take-le _ _ (within (c .before)))
 
-rerun-requires : tie.Need-rerun-requires
-rerun-requires c κs = search needs
+slice-aggregate-program-2 : tie.Need-slice-aggregate-program-2
+slice-aggregate-program-2 c = search needs
 
-lines-requires : tie.Need-lines-requires
-lines-requires c κs = search needs
+program-requires : tie.Need-program-requires
+program-requires c κs = search needs
+
+array-share-prefix-text : tie.Need-array-share-prefix-text
+array-share-prefix-text c = search needs
+
+slice-aggregate-write-all : tie.Need-slice-aggregate-write-all
+slice-aggregate-write-all c = sym (length-take-le _ _ (omega (arith, c .before .before .program .ensures .0)))
+
+write-all-requires : tie.Need-write-all-requires
+write-all-requires c κs = search needs
 
 enum-told : tie.Need-enum-told
 enum-told c = search needs
 
-slice-aggregate-write-all : tie.Need-slice-aggregate-write-all
-slice-aggregate-write-all c = search needs
+slice-aggregate-write-all-2 : tie.Need-slice-aggregate-write-all-2
+slice-aggregate-write-all-2 c = search needs
 
-write-all-requires : tie.Need-write-all-requires
-write-all-requires c κs = search needs
+write-all-requires-2 : tie.Need-write-all-requires-2
+write-all-requires-2 c κs = search needs
 
 returns : tie.Need-returns
 returns c = search needs
@@ -60,11 +70,14 @@ main-spec =
     read-input-requires
     enum-known-input
     array-share-prefix-bytes
-    slice-aggregate-rerun
-    rerun-requires
-    lines-requires
-    enum-told
+    slice-aggregate-program
+    slice-aggregate-program-2
+    program-requires
+    array-share-prefix-text
     slice-aggregate-write-all
     write-all-requires
+    enum-told
+    slice-aggregate-write-all-2
+    write-all-requires-2
     returns
     returns-2)

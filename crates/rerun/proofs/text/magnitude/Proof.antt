@@ -8,17 +8,17 @@ use mir.Syntax.{w32}
 use mir.Val.{SFits}
 use mir.Facts.{toZ-ofZ, fits-natAbs}
 use Rattle.yard.proofs.Signed.{read, below, below-abs, cast-abs}
-use Rattle.rerun.proofs.print.magnitude.Statement.{statement}
-use Rattle.rerun.proofs.print.magnitude.Tie as tie
+use Rattle.rerun.proofs.text.magnitude.Statement.{statement}
+use Rattle.rerun.proofs.text.magnitude.Tie as tie
 
 -- Below 0, -1 - z is one less than the magnitude.
-less : (c : tie.Then1) → negsuc 0 -ℤ read (c .before .args .n) ≡ pos (mag (c .before .args .n))
+less : (c : tie.Then1) → negsuc 0 -ℤ read (c .before .args .z) ≡ pos (mag (c .before .args .z))
 less c =
-    let e = toZ-ofZ (c .before .fits .n) in
-    rw e (below (c .before .args .n) (rw e at (c .if1 .taken)))
+    let e = toZ-ofZ (c .before .fits .z) in
+    rw e (below (c .before .args .z) (rw e at (c .if1 .taken)))
 
-fits : (c : tie.Then1) → SFits w32 (pos (mag (c .before .args .n)))
-fits c = record { sfits = c .before .fits .n .sfits }
+fits : (c : tie.Then1) → SFits w32 (pos (mag (c .before .args .z)))
+fits c = record { sfits = c .before .fits .z .sfits }
 
 sub-result : tie.Need-sub-result
 sub-result c = rw (less c) (fits c)
@@ -32,12 +32,12 @@ add-result c = rw (less c, toZ-ofZ (fits c)) (omega (arith, fits c))
 returns : tie.Need-returns
 returns c =
     rw (less c, toZ-ofZ (fits c))
-    (sym (below-abs (c .before .args .n) (rw (toZ-ofZ (c .before .fits .n)) at (c .if1 .taken))))
+    (sym (below-abs (c .before .args .z) (rw (toZ-ofZ (c .before .fits .z)) at (c .if1 .taken))))
 
 cast-result-2 : tie.Need-cast-result-2
 cast-result-2 c =
-    let e = toZ-ofZ (c .before .fits .n) in
-    rw e (cast-abs _ (rw e at (c .if1 .left)) (c .before .fits .n))
+    let e = toZ-ofZ (c .before .fits .z) in
+    rw e (cast-abs _ (rw e at (c .if1 .left)) (c .before .fits .z))
 
 returns-2 : tie.Need-returns-2
 returns-2 c = search needs
