@@ -2,3 +2,4 @@
 pub mod Past
 pub mod Decimals
 pub mod Words
+pub mod Statements

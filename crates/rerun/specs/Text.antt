@@ -47,7 +47,7 @@ wordsText text state =
     ++ wordText (getD state 3 (pos 0))
     ++ wordText (getD state 4 (pos 0))
 
--- '`steps N`, then a line `carrier x y u v lever` for each carrier'; or 'the one line `refused 13`'.
+-- '`steps N`, then a line `carrier x y u v lever` for each carrier'; or the one line `refused N`.
 unfoldable pub linesOf : Replayed → ℕ → List ℤ → List ℕ
 linesOf (replayed.Done) steps state =
     wordsText (stepsText ++ decimal steps ++ carrierText) state

@@ -59,8 +59,8 @@ returns c =
     let all : l .i ≡ length (now (a .bytes)) = omega arith in (
       omega arith,
       rw (l .inv .2, all)
-          (take-paste (now (a .text)) (a .at) (now (a .bytes)) (length (now (a .bytes))) (omega arith)
-          (omega arith)
+          (take-paste (now (a .text)) (a .at) (now (a .bytes)) (length (now (a .bytes)))
+          (omega arith) (omega arith)
           ∙ ap (λ t. take (a .at) (now (a .text)) ++ t) (take-length (now (a .bytes)))),
     )
 
