@@ -10,10 +10,10 @@ use lib.Seq.{take-all, length-take-le}
 use borrow.Author.Tests.{lt-leb, leb-true, leb-false}
 use Rattle.basis.specs.Numbers.{LOG, mostSteps}
 use Rattle.basis.specs.Order.{Answer, answer, refused, accepted}
-use Rattle.basis.proofs.Order.{held, given, passes, fails, gives, apart}
+use Rattle.basis.proofs.Order.{held, given, passes, gives, apart}
 use Rattle.record.specs.Bytes.{recordOf, wellFormed, limitsOrder, readOrder}
 use Rattle.record.specs.Held.{bufferSize}
-use Rattle.record.specs.Log.{precedes, recordsOf, soundLog}
+use Rattle.record.specs.Log.{precedes, soundLog}
 use Rattle.yard.specs.Free.{wall, share, covers, noWall, free}
 use Rattle.yard.specs.Levers.{pushOf, cut, brake, newSpeed}
 use Rattle.yard.specs.Ranges.{every}
@@ -25,7 +25,7 @@ use Rattle.fleet.specs.State.{carrier, wordsOf, put, freeFor, startTo}
 use Rattle.fleet.specs.Step.{stepOne, stepTo, stepAll}
 use Rattle.record.specs.Held.{leverAt}
 use Rattle.rerun.specs.Practice.{practiceYard}
-use Rattle.rerun.specs.Rerun.{End, stepsPast, endOf, programOrder}
+use Rattle.rerun.specs.Rerun.{End, stepsPast, programOrder}
 use Rattle.rerun.specs.Statements.{Program, Examples}
 use Rattle.rerun.specs.Text.{decimalTo, wordText, wordsText, linesOf}
 use Rattle.rerun.proofs.Past.{too-long, unsound, replays, sound-within}

@@ -3,11 +3,11 @@
 ghost use mathlib.Core.Path.{_≡_};
 ghost use mathlib.Core.List.{_++_};
 ghost use Prim.Native.Nat.{_+_, _≤_};
-ghost use lib.IntN.{natAbs};
 ghost use lib.ListN.{length, take};
 ghost use Rattle.rerun.specs.Text.{decimal, linesOf, wordText, wordsText};
 use super::practice::Ended;
 use session::Replayed;
+use yard::magnitude;
 
 pub struct Text {}
 
@@ -31,16 +31,6 @@ fn put(text: &mut [u8], at: usize, bytes: &[u8]) -> usize
     at + i
 }
 
-// |z|, also of the least i32.
-fn magnitude(z: i32) -> u64
-    ensures size { λ r. ⌜ r ≡ natAbs z ⌝ }
-{
-    if z < 0 {
-        return (-1 - z) as u64 + 1;
-    }
-    z as u64
-}
-
 fn put_number(text: &mut [u8], at: usize, n: u64) -> usize
     requires room { ⌜ at + 20 ≤ length (now text) ⌝ }
     ensures put { λ r. ⌜
@@ -59,7 +49,7 @@ fn put_word(text: &mut [u8], at: usize, z: i32) -> usize
         (r ≤ at + 22)
         × (take r (now (text .exit)) ≡ take at (now (text .entry)) ++ wordText z) ⌝ }
 {
-    let size = magnitude(z);
+    let size = magnitude(z) as u64;
     if z < 0 {
         let next = put(text, at, b" -");
         return put_number(text, next, size);

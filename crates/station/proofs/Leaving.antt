@@ -10,7 +10,7 @@ use Rattle.session.specs.Lent.{Left as SessionLeft, left as sessionLeft, leaves
 use Rattle.session.specs.declared.Replayed.{Replayed}
 use Rattle.session.specs.declared.Replayed.the-variants as replayed
 use Rattle.session.specs.declared.Session.{Session}
-use Rattle.station.specs.Left.{Filled, filled, fills, DONE, Left, left, leaves}
+use Rattle.station.specs.Left.{filled, fills, DONE, left, leaves}
 use Rattle.station.specs.Words.{wordsOf}
 
 -- What replay answers, by its number.

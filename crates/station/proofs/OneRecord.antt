@@ -15,7 +15,7 @@ use Rattle.record.specs.declared.bytes.Outcome.the-variants as outcome
 use Rattle.record.specs.declared.bytes.Record.{Record}
 use Rattle.record.specs.declared.bytes.Written.{Written}
 use Rattle.station.specs.Face.{readRecordFace, writeRecordFace}
-use Rattle.station.specs.Left.{Filled, filled, fills, DONE}
+use Rattle.station.specs.Left.{filled, fills, DONE}
 use Rattle.station.proofs.Stores.{stores}
 
 module _ (bytes out : List ℕ) where

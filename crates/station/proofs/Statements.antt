@@ -6,8 +6,7 @@ use mathlib.Core.List.{List, [], _∷_}
 use native.Mathlib.Omega.{arith}
 use lib.ListN.{getD, length}
 use borrow.Author.Tests.{eq-eqb}
-use Rattle.basis.specs.Numbers.{WORLD, ROOM}
-use Rattle.basis.specs.Order.{Answer, refused, accepted, answer}
+use Rattle.basis.specs.Order.{answer}
 use Rattle.basis.proofs.Order.{passes, fails}
 use Rattle.yard.specs.Rule9.{rangesHold}
 use Rattle.yard.specs.declared.world.Yard.{Yard}
@@ -17,8 +16,8 @@ use Rattle.session.specs.Sound.{sound}
 use Rattle.session.specs.declared.Session.{Session}
 use Rattle.session.proofs.Good.{good}
 use Rattle.session.proofs.Room.{width-most, height-most, carriers-most}
-use Rattle.station.specs.Words.{wordsOf, sessionOf, nine}
-use Rattle.station.specs.Left.{Filled, filled, fills, Left, left, leavesRunning}
+use Rattle.station.specs.Words.{wordsOf, sessionOf}
+use Rattle.station.specs.Left.{Filled, filled, Left}
 use Rattle.station.specs.Face.{openFace, readingFace, deliverFace}
 use Rattle.station.specs.Statements.{NineWords, OneOutcome, OneLeft, Determined, Refusals}
 use Rattle.station.specs.Statements.{Thin}

@@ -4,7 +4,6 @@ use mathlib.Core.Bool.{cond}
 use mathlib.Core.List.{List, [], _∷_}
 use lib.Dec.{eqb}
 use lib.Ieee.{Float}
-use lib.IntN.{ℤ}
 use lib.ListN.{length}
 use Rattle.basis.specs.Numbers.{WORLD, ROOM, FAULT, mostCarriers}
 use Rattle.basis.specs.Order.{Order, check, give, andThen}
@@ -17,7 +16,6 @@ use Rattle.session.specs.Calls.{Delivery, openOrder, readingOrder, deliverOrder
 use Rattle.session.specs.Calls.{shownOrder}
 use Rattle.session.specs.Lent.{Lent, Made}
 use Rattle.session.specs.declared.Session.{Session}
-use Rattle.shown.specs.declared.Place.{Place}
 use Rattle.station.specs.Words.{sessionOf, nine}
 
 -- W, H and B.

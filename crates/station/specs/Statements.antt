@@ -1,14 +1,14 @@
 -- What is claimed of the C face. proofs/Statements.antt proves each record whole.
 use Prim.Native.Nat.{ℕ, _<_}
 use mathlib.Core.Path.{_≡_}
-use mathlib.Core.Bool.{true, false}
+use mathlib.Core.Bool.{false}
 use mathlib.Core.List.{List}
 use lib.Ieee.{Float}
 use lib.IntN.{ℤ}
 use lib.ListN.{getD, length}
 use Rattle.basis.specs.Order.{Answer, refused, answer}
 use Rattle.yard.specs.declared.world.Yard.{Yard}
-use Rattle.session.specs.Calls.{openOrder, readingOrder, deliverOrder, replayOrder, digestOrder}
+use Rattle.session.specs.Calls.{openOrder, readingOrder, deliverOrder, replayOrder}
 use Rattle.session.specs.Calls.{Delivery}
 use Rattle.session.specs.Lent.{Lent, Made}
 use Rattle.session.specs.Sound.{sound}

@@ -23,7 +23,7 @@ pub use show::wuthracomb_digest;
 pub use show::wuthracomb_shown;
 ghost use mathlib.Core.Path.{_≡_};
 
-pub struct Face {}
+struct Face {}
 
 impl Face {
     // An accepted call other than a delivery.
@@ -31,7 +31,7 @@ impl Face {
 }
 
 // A number of the table, as the C face gives it.
-pub fn wide(number: u8) -> u32
+fn wide(number: u8) -> u32
     ensures same { λ r. ⌜ r ≡ number ⌝ }
 {
     number as u32

@@ -1,7 +1,6 @@
 -- `read_input` is safe and ends: each read that gives something leaves less of the buffer.
 use Prim.Native.Nat.{_≤_, _-_}
 use mathlib.Core.Path.{_≡_}
-use native.Mathlib.Omega.{arith}
 use lib.ListN.{length}
 use borrow.Author.Needs.{needs}
 use Rattle.rerun.proofs.input.read_input.Statement.{statement}

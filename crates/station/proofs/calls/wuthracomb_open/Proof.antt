@@ -1,5 +1,4 @@
 -- `wuthracomb_open` meets its contract.
-use mathlib.Core.Bool.{true}
 use mathlib.Core.Path.{_≡_, sym, ap, _∙_}
 use denote.Ref.{now}
 use Rattle.basis.specs.Order.{Answer, answer}

@@ -10,7 +10,7 @@ use Rattle.station.proofs.Stores.{stores}
 use mathlib.Core.List.{[], _∷_}
 use mathlib.Core.Path.{_≡_}
 use Rattle.basis.specs.Numbers.{mostCarriers}
-use Rattle.basis.specs.Order.{answer, accepted, refused}
+use Rattle.basis.specs.Order.{answer, accepted}
 use Rattle.record.specs.Bytes.{readOrder}
 use borrow.Author.Needs.{needs}
 use Rattle.station.proofs.records.wuthracomb_read_record.Statement.{statement}

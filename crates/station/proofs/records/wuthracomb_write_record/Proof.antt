@@ -1,7 +1,7 @@
 -- `wuthracomb_write_record` meets its contract.
 use native.Mathlib.Omega.{arith}
 use lib.ListN.{length-set}
-use mathlib.Core.Path.{sym, ap, _∙_}
+use mathlib.Core.Path.{sym, ap}
 use denote.Ref.{now}
 use Rattle.station.specs.Left.{fills}
 use Rattle.station.proofs.OneRecord.{write-refused, write-no-room, write-given}
