@@ -46,7 +46,7 @@ writeRecordFace step carrier lever out =
     (λ r. check (eqb (length out) 8) ROOM
     (give (bytesOf r)))
 
--- `wuthracomb_open`: the session's length among the other lengths.
+-- `wuthracomb_open`: the session's length among the other lengths; the ranges stand before both.
 unfoldable pub openFace : Yard → ℕ → Lent → List ℕ → Order (Made Session)
 openFace yard reading l words =
     check (rangesHold yard) WORLD

@@ -11,6 +11,7 @@ mod records;
 mod show;
 mod words;
 
+ghost use mathlib.Core.Path.{_≡_};
 pub use calls::wuthracomb_deliver;
 pub use calls::wuthracomb_open;
 pub use calls::wuthracomb_reading;
@@ -21,7 +22,6 @@ pub use records::wuthracomb_step_records;
 pub use records::wuthracomb_write_record;
 pub use show::wuthracomb_digest;
 pub use show::wuthracomb_shown;
-ghost use mathlib.Core.Path.{_≡_};
 
 struct Face {}
 
