@@ -17,6 +17,7 @@ pub use rule9::cells_hold;
 pub use rule9::ranges_hold;
 pub use rule9::sizes_hold;
 pub use rule9::starts_hold;
+pub use words::magnitude;
 pub use world::Size;
 pub use world::Yard;
 pub use world::word_of;

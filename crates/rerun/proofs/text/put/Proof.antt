@@ -1,0 +1,82 @@
+-- `put` meets its contract.
+use Prim.Native.Nat.{_+_, _-_, _≤_}
+use mathlib.Core.Path.{_≡_, refl, ap, _∙_}
+use mathlib.Core.List.{_++_}
+use native.Mathlib.Numerals.{add-one}
+use native.Mathlib.Omega.{arith}
+use lib.ListN.{length, take, length-set}
+use lib.Seq.{paste, paste-zero, paste-suc, take-paste, take-length}
+use denote.Ref.{now}
+use borrow.Author.Needs.{needs}
+use Rattle.rerun.proofs.text.put.Statement.{statement}
+use Rattle.rerun.proofs.text.put.Tie as tie
+
+abbrev Inv-loop : tie.InvT-loop
+Inv-loop text₀ at bytes i₀ text i =
+    (i ≤ length bytes) × (length text ≡ length text₀) × (text ≡ paste text₀ at bytes i)
+
+abbrev μ-loop : tie.MeasureT-loop
+μ-loop text₀ at bytes i₀ text i = length bytes - i
+
+loop-holds : tie.Need-loop-holds Inv-loop μ-loop
+loop-holds c = (search needs, refl, paste-zero _ (c .args .at) (now (c .args .bytes)))
+
+shared-slice-read-text : tie.Need-shared-slice-read-text Inv-loop μ-loop
+shared-slice-read-text c = search needs
+
+add-text : tie.Need-add-text Inv-loop μ-loop
+add-text c = search needs
+
+slice-write-text : tie.Need-slice-write-text Inv-loop μ-loop
+slice-write-text c = omega (arith, c .before .before .loop .inv .1)
+
+add-i : tie.Need-add-i Inv-loop μ-loop
+add-i c = search needs
+
+loop-less : tie.Need-loop-less Inv-loop μ-loop
+loop-less c = search needs
+
+loop-again : tie.Need-loop-again Inv-loop μ-loop
+loop-again c =
+    let l = c .before .before .loop in
+    let a = c .before .before .before .args in (
+      omega arith,
+      simp length-set (l .inv .1),
+      rw (add-one, l .inv .2)
+          (paste-suc (now (a .text)) (a .at) (now (a .bytes)) (l .i) 0 (omega arith) (omega arith)),
+    )
+
+add-result : tie.Need-add-result Inv-loop μ-loop
+add-result c = search needs
+
+same-length : tie.Need-same-length Inv-loop μ-loop
+same-length c = c .before .loop .inv .1
+
+returns : tie.Need-returns Inv-loop μ-loop
+returns c =
+    let l = c .before .loop in
+    let a = c .before .before .args in
+    let all : l .i ≡ length (now (a .bytes)) = omega arith in (
+      omega arith,
+      rw (l .inv .2, all)
+          (take-paste (now (a .text)) (a .at) (now (a .bytes)) (length (now (a .bytes)))
+          (omega arith) (omega arith)
+          ∙ ap (λ t. take (a .at) (now (a .text)) ++ t) (take-length (now (a .bytes)))),
+    )
+
+pub put-spec : {M : Type 1} → statement M
+put-spec =
+    tie.close
+    (tie.spec
+    Inv-loop
+    μ-loop
+    loop-holds
+    shared-slice-read-text
+    add-text
+    slice-write-text
+    add-i
+    loop-less
+    loop-again
+    add-result
+    same-length
+    returns)

@@ -1,0 +1,11 @@
+-- What reading standard input answers: how many bytes stand at the front of the buffer.
+use Prim.Native.Nat.{ℕ, _≤_}
+use mathlib.Core.List.{List}
+use lib.ListN.{length}
+use Rattle.rerun.specs.declared.input.Input.{Input}
+use Rattle.rerun.specs.declared.input.Input.the-variants as input
+
+-- Never more than the buffer holds; nothing is said of a read that fails.
+abbrev pub ReadIn : Input → List ℕ → Type 0
+ReadIn (input.Read n) buffer = n ≤ length buffer
+ReadIn input.Failed buffer = Unit {0}

@@ -1,0 +1,57 @@
+-- What is claimed of the program. proofs/Statements.antt proves each record whole.
+use Prim.Native.Nat.{ℕ, _+_, _<_, _≤_}
+use mathlib.Core.Path.{_≡_}
+use mathlib.Core.Bool.{true}
+use mathlib.Core.List.{List, [], _∷_}
+use lib.IntN.{ℤ}
+use lib.ListN.{length, take}
+use Rattle.basis.specs.Numbers.{LOG, mostSteps}
+use Rattle.basis.specs.Order.{refused, accepted, answer}
+use Rattle.record.specs.Held.{bufferSize}
+use Rattle.record.specs.Log.{recordsOf, soundLog}
+use Rattle.session.specs.Calls.{replayOrder}
+use Rattle.rerun.specs.Practice.{practiceYard, practiceCells, practiceBoxes}
+use Rattle.rerun.specs.Rerun.{End, stepsPast, endOf, programOrder}
+use Rattle.rerun.specs.Text.{programText}
+
+-- 'The program', of every input.
+pub record Program : Type 0 where
+  -- 'more than 16,384 bytes of input, gives the one line `refused 13`'
+  pub long : (input : List ℕ) → bufferSize < length input
+      → answer (programOrder input) ≡ refused LOG
+  -- One byte more than a log has is read, and that is enough: what follows plays no part.
+  pub enough : (input : List ℕ)
+      → answer (programOrder (take (bufferSize + 1) input)) ≡ answer (programOrder input)
+  -- No other number is given.
+  pub only : (input : List ℕ) (n : ℕ) → answer (programOrder input) ≡ refused n → n ≡ LOG
+  -- A sound log is replayed: whatever the state held, replay of it gives this state.
+  pub replayed : (input : List ℕ) (state : List ℤ) → length state ≡ 5
+      → soundLog (practiceYard .b) input ≡ true
+      → answer (replayOrder practiceYard (stepsPast (recordsOf input)) practiceCells practiceBoxes
+      state input)
+      ≡ accepted (endOf (recordsOf input) .state)
+  -- It never asks for more steps than a session makes.
+  pub steps : (input : List ℕ) (end : End) → answer (programOrder input) ≡ accepted end
+      → end .steps ≤ mostSteps
+
+-- The records (0, 0, 1) and (2, 0, 9).
+abbrev pub brakeLog : List ℕ
+brakeLog =
+    0 ∷ 0 ∷ 0 ∷ 0 ∷ 0 ∷ 1 ∷ 0 ∷ 0 ∷ 2 ∷ 0 ∷ 0 ∷ 0 ∷ 0 ∷ 9 ∷ 0 ∷ 0 ∷ []
+
+-- 'Program, .. output whole'.
+pub record Examples : Type 0 where
+  -- `steps 3`, then `0 48 256 12 0 9`.
+  pub brake : programText (answer (programOrder brakeLog))
+      ≡
+      115 ∷ 116 ∷ 101 ∷ 112 ∷ 115 ∷ 32 ∷ 51 ∷ 10 ∷ 48 ∷ 32 ∷ 52 ∷ 56 ∷ 32 ∷ 50 ∷ 53 ∷ 54 ∷ 32 ∷
+      49 ∷ 50 ∷ 32 ∷ 48 ∷ 32 ∷ 57 ∷ 10 ∷ []
+  -- 'Empty input: `steps 0`, then `0 0 256 0 0 0`.'
+  pub empty : programText (answer (programOrder []))
+      ≡
+      115 ∷ 116 ∷ 101 ∷ 112 ∷ 115 ∷ 32 ∷ 48 ∷ 10 ∷ 48 ∷ 32 ∷ 48 ∷ 32 ∷ 50 ∷ 53 ∷ 54 ∷ 32 ∷ 48 ∷
+      32 ∷ 48 ∷ 32 ∷ 48 ∷ 10 ∷ []
+  -- The one line `refused 13`: a log of one byte.
+  pub refused : programText (answer (programOrder (0 ∷ [])))
+      ≡
+      114 ∷ 101 ∷ 102 ∷ 117 ∷ 115 ∷ 101 ∷ 100 ∷ 32 ∷ 49 ∷ 51 ∷ 10 ∷ []

@@ -1,0 +1,7 @@
+-- Laws of the C face.
+pub mod Stores
+pub mod Sessions
+pub mod OneRecord
+pub mod Showing
+pub mod Leaving
+pub mod Statements

@@ -1,0 +1,56 @@
+-- `words_fit` meets its contract.
+use borrow.Author.Tests.{eq-eqb, ne-eqb, lt-ltb, le-ltb}
+use Rattle.station.specs.Words.{wordsFit}
+use borrow.Author.Needs.{needs}
+use Rattle.station.proofs.words.words_fit.Statement.{statement}
+use Rattle.station.proofs.words.words_fit.Tie as tie
+
+returns : tie.Need-returns
+unfolding wordsFit
+returns c = rw (ne-eqb _ _ (c .if1 .taken))
+
+shared-slice-read-if2 : tie.Need-shared-slice-read-if2
+shared-slice-read-if2 c = search needs
+
+returns-2 : tie.Need-returns-2
+unfolding wordsFit
+returns-2 c =
+    let one = c .before .before in
+    rw (eq-eqb _ _ (one .if1 .left), le-ltb _ _ (c .if2 .taken))
+
+shared-slice-read-if3 : tie.Need-shared-slice-read-if3
+shared-slice-read-if3 c = search needs
+
+returns-3 : tie.Need-returns-3
+unfolding wordsFit
+returns-3 c =
+    let two = c .before .before in
+    let one = two .before .before in
+    rw (eq-eqb _ _ (one .if1 .left), lt-ltb _ _ (two .if2 .left), le-ltb _ _ (c .if3 .taken))
+
+shared-slice-read-result : tie.Need-shared-slice-read-result
+shared-slice-read-result c = search needs
+
+returns-4 : tie.Need-returns-4
+unfolding wordsFit
+returns-4 c =
+    let three = c .before in
+    let two = three .before .before in
+    let one = two .before .before in
+    rw (
+      eq-eqb _ _ (one .if1 .left),
+      lt-ltb _ _ (two .if2 .left),
+      lt-ltb _ _ (three .if3 .left),
+    )
+
+pub words-fit-spec : {M : Type 1} → statement M
+words-fit-spec =
+    tie.close
+    (tie.spec
+    returns
+    shared-slice-read-if2
+    returns-2
+    shared-slice-read-if3
+    returns-3
+    shared-slice-read-result
+    returns-4)

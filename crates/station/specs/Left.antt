@@ -1,0 +1,64 @@
+-- What a function of the C face answers by a number, and what it leaves in the lent slices.
+use Prim.Native.Nat.{ℕ}
+use mathlib.Core.List.{List}
+use lib.IntN.{ℤ}
+use Rattle.basis.specs.Numbers.{TAKEN, HELD}
+use Rattle.basis.specs.Order.{Answer, refused, accepted}
+use Rattle.session.specs.Calls.{Delivery, taken, held}
+use Rattle.session.specs.Lent.{Lent, Made}
+use Rattle.session.specs.declared.Session.{Session}
+use Rattle.station.specs.Words.{wordsOf}
+
+-- 'An accepted call other than a delivery gives its result and none of these numbers.'
+abbrev pub DONE : ℕ
+DONE = 255
+
+-- A call that may change one slice only.
+pub record Filled (A : Type 0) : Type 0 where
+  pub number : ℕ
+  pub out : List A
+
+abbrev pub filled : {A : Type 0} → ℕ → List A → Filled A
+filled number out = record { number = number; out = out }
+
+-- 'the number comes back, and .. all lent bytes and words are as before'; an accepted call fills
+-- the slice.
+abbrev pub fills : {A : Type 0} → List A → Answer (List A) → Filled A
+fills before (refused number) = filled number before
+fills before (accepted out) = filled DONE out
+
+-- A call that may change the state, the rows, the log and the session.
+pub record Left : Type 0 where
+  pub number : ℕ
+  pub state : List ℤ
+  pub rows : List ℤ
+  pub log : List ℕ
+  pub session : List ℕ
+
+abbrev pub left : ℕ → List ℤ → List ℤ → List ℕ → List ℕ → Left
+left number state rows log session =
+    record { number = number; state = state; rows = rows; log = log; session = session }
+
+-- A refusal leaves all 'as before'; an accepted call leaves what it makes, and the words of its
+-- session.
+abbrev pub leaves : {A : Type 0} → (A → ℕ) → (A → Session) → Lent → List ℕ → Answer (Made A) → Left
+leaves numberOf sessionOf l words (refused number) =
+    left number (l .state) (l .rows) (l .log) words
+leaves numberOf sessionOf l words (accepted m) =
+    left (numberOf (m .result)) (m .state) (m .rows) (m .log) (wordsOf (sessionOf (m .result)))
+
+-- Opening and a reading: 255 and the session.
+abbrev pub leavesRunning : Lent → List ℕ → Answer (Made Session) → Left
+leavesRunning = leaves (λ session. DONE) (λ session. session)
+
+-- A delivery: 0 or 1, and the session.
+abbrev pub deliveredNumber : Delivery → ℕ
+deliveredNumber (taken session) = TAKEN
+deliveredNumber (held session) = HELD
+
+abbrev pub deliveredSession : Delivery → Session
+deliveredSession (taken session) = session
+deliveredSession (held session) = session
+
+abbrev pub leavesDelivered : Lent → List ℕ → Answer (Made Delivery) → Left
+leavesDelivered = leaves deliveredNumber deliveredSession

@@ -1,0 +1,80 @@
+-- What is claimed of the C face. proofs/Statements.antt proves each record whole.
+use Prim.Native.Nat.{ℕ, _<_}
+use mathlib.Core.Path.{_≡_}
+use mathlib.Core.Bool.{false}
+use mathlib.Core.List.{List}
+use lib.Ieee.{Float}
+use lib.IntN.{ℤ}
+use lib.ListN.{getD, length}
+use Rattle.basis.specs.Order.{Answer, refused, answer}
+use Rattle.yard.specs.declared.world.Yard.{Yard}
+use Rattle.session.specs.Calls.{openOrder, readingOrder, deliverOrder, replayOrder}
+use Rattle.session.specs.Calls.{Delivery}
+use Rattle.session.specs.Lent.{Lent, Made}
+use Rattle.session.specs.Sound.{sound}
+use Rattle.session.specs.declared.Session.{Session}
+use Rattle.station.specs.Words.{wordsOf, sessionOf}
+use Rattle.station.specs.Left.{Filled, filled, fills, Left, left, leavesRunning}
+use Rattle.station.specs.Left.{leavesDelivered}
+use Rattle.station.specs.Face.{logSound, stepRecordsFace, readRecordFace, writeRecordFace}
+use Rattle.station.specs.Face.{openFace, readingFace, deliverFace, digestFace, shownFace}
+
+-- A session and its nine words.
+pub record NineWords : Type 0 where
+  -- The words that a call leaves are, at the next call, the session that it made.
+  pub session : (s : Session) → sessionOf (wordsOf s) ≡ s
+  -- Nine words are those of the session in them.
+  pub words : (words : List ℕ) → length words ≡ 9 → wordsOf (sessionOf words) ≡ words
+  -- A word is compared whole: W, H or B above its range is unsound, also 2^32 above a good one.
+  pub whole : (words : List ℕ) (l : Lent) (k : ℕ) → k < 3 → 64 < getD words k 0
+      → sound (sessionOf words) l ≡ false
+
+-- Any two outcomes of which a contract says that they come to this are the same.
+abbrev pub OneOutcome : {A : Type 0} → Filled A → Type 0
+OneOutcome {A} x =
+    (r s : ℕ) (out other : List A) → filled r out ≡ x → filled s other ≡ x → (r ≡ s) × (out ≡ other)
+
+abbrev pub OneLeft : Left → Type 0
+OneLeft x =
+    (r s : ℕ) (state state′ rows rows′ : List ℤ) (log log′ session session′ : List ℕ)
+    → left r state rows log session ≡ x → left s state′ rows′ log′ session′ ≡ x
+    → (r ≡ s) × (state ≡ state′) × (rows ≡ rows′) × (log ≡ log′) × (session ≡ session′)
+
+-- 'any two outcomes allowed by it coincide', for the contract of each function.
+pub record Determined : Type 0 where
+  pub logSound : (log : List ℕ) (r s : ℕ) → r ≡ logSound log → s ≡ logSound log → r ≡ s
+  pub stepRecords : (log : List ℕ) (step : ℕ) (out : List ℕ)
+      → OneOutcome (fills out (answer (stepRecordsFace log step out)))
+  pub readRecord : (bytes out : List ℕ) → OneOutcome (fills out (answer (readRecordFace bytes out)))
+  pub writeRecord : (step carrier lever : ℕ) (out : List ℕ)
+      → OneOutcome (fills out (answer (writeRecordFace step carrier lever out)))
+  pub opens : (yard : Yard) (reading : ℕ) (l : Lent) (words : List ℕ)
+      → OneLeft (leavesRunning l words (answer (openFace yard reading l words)))
+  pub reading : (reading : ℕ) (l : Lent) (words : List ℕ)
+      → OneLeft (leavesRunning l words (answer (readingFace reading l words)))
+  pub deliver : (bytes : List ℕ) (l : Lent) (words : List ℕ)
+      → OneLeft (leavesDelivered l words (answer (deliverFace bytes l words)))
+  pub replay : (yard : Yard) (steps : ℕ) (cells : List ℕ) (boxes state : List ℤ) (log : List ℕ)
+      → OneOutcome (fills state (answer (replayOrder yard steps cells boxes state log)))
+  pub digest : (l : Lent) (words out : List ℕ)
+      → OneOutcome (fills out (answer (digestFace l words out)))
+  pub shown : (carrier : ℕ) (l : Lent) (words : List ℕ) (out : List Float)
+      → OneOutcome (fills out (answer (shownFace carrier l words out)))
+
+-- 'the number comes back, and the session and all lent bytes and words are as before'.
+pub record Refusals : Type 1 where
+  pub filled : {A : Type 0} (before : List A) (a : Answer (List A)) (n : ℕ) → a ≡ refused n
+      → fills before a ≡ filled n before
+  pub running : (l : Lent) (words : List ℕ) (a : Answer (Made Session)) (n : ℕ) → a ≡ refused n
+      → leavesRunning l words a ≡ left n (l .state) (l .rows) (l .log) words
+  pub delivered : (l : Lent) (words : List ℕ) (a : Answer (Made Delivery)) (n : ℕ) → a ≡ refused n
+      → leavesDelivered l words a ≡ left n (l .state) (l .rows) (l .log) words
+
+-- With nine words the C face answers as `session` does.
+pub record Thin : Type 0 where
+  pub opens : (yard : Yard) (reading : ℕ) (l : Lent) (words : List ℕ) → length words ≡ 9
+      → answer (openFace yard reading l words) ≡ answer (openOrder yard reading l)
+  pub reading : (reading : ℕ) (l : Lent) (words : List ℕ) → length words ≡ 9
+      → answer (readingFace reading l words) ≡ answer (readingOrder (sessionOf words) l reading)
+  pub deliver : (bytes : List ℕ) (l : Lent) (words : List ℕ) → length words ≡ 9
+      → answer (deliverFace bytes l words) ≡ answer (deliverOrder (sessionOf words) l bytes)

@@ -1,0 +1,38 @@
+// The C face of `record` and `session`: numbers and slices only, as include/wuthracomb.h has them.
+// A slice is a pointer and a length; every function answers document 01's number, or 255 for an
+// accepted call other than a delivery.
+//   words    a session as nine words
+//   records  one record, a log, the records of one step
+//   calls    opening, reading, delivery, replay
+//   show     the digest, and the shown place of a carrier
+
+mod calls;
+mod records;
+mod show;
+mod words;
+
+ghost use mathlib.Core.Path.{_≡_};
+pub use calls::wuthracomb_deliver;
+pub use calls::wuthracomb_open;
+pub use calls::wuthracomb_reading;
+pub use calls::wuthracomb_replay;
+pub use records::wuthracomb_log_sound;
+pub use records::wuthracomb_read_record;
+pub use records::wuthracomb_step_records;
+pub use records::wuthracomb_write_record;
+pub use show::wuthracomb_digest;
+pub use show::wuthracomb_shown;
+
+struct Face {}
+
+impl Face {
+    // An accepted call other than a delivery.
+    pub const DONE: u32 = 255;
+}
+
+// A number of the table, as the C face gives it.
+fn wide(number: u8) -> u32
+    ensures same { λ r. ⌜ r ≡ number ⌝ }
+{
+    number as u32
+}
