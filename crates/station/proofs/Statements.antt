@@ -6,11 +6,11 @@ use mathlib.Core.List.{List, [], _∷_}
 use native.Mathlib.Omega.{arith}
 use lib.ListN.{getD, length}
 use borrow.Author.Tests.{eq-eqb}
-use Rattle.basis.specs.Order.{answer}
+use Rattle.basis.specs.Order.{answer, andThen}
 use Rattle.basis.proofs.Order.{passes, fails}
 use Rattle.yard.specs.Rule9.{rangesHold}
 use Rattle.yard.specs.declared.world.Yard.{Yard}
-use Rattle.session.specs.Calls.{openOrder, readingOrder, deliverOrder}
+use Rattle.session.specs.Calls.{worldOrder, openOrder, readingOrder, deliverOrder}
 use Rattle.session.specs.Lent.{Lent}
 use Rattle.session.specs.Sound.{sound}
 use Rattle.session.specs.declared.Session.{Session}
@@ -93,7 +93,7 @@ refusals =
 -- Opening tests the ranges first, so the face's own test of them changes nothing.
 opens : (yard : Yard) (reading : ℕ) (l : Lent) (words : List ℕ) → length words ≡ 9
     → answer (openFace yard reading l words) ≡ answer (openOrder yard reading l)
-unfolding openFace openOrder
+unfolding openFace openOrder worldOrder andThen
 opens yard reading l words long = go (rangesHold yard) refl
   where
     go : (t : Bool) → rangesHold yard ≡ t
