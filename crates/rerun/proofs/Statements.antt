@@ -40,7 +40,8 @@ enough input = go (leb (length input) bufferSize) refl
     go : (t : Bool) → leb (length input) bufferSize ≡ t
         → answer (programOrder (take (bufferSize + 1) input)) ≡ answer (programOrder input)
     go true e =
-        let fits : length input ≤ bufferSize + 1 = omega (arith, leb-true (length input) bufferSize e) in
+        let fits : length input ≤ bufferSize + 1 =
+        omega (arith, leb-true (length input) bufferSize e) in
         ap (λ (l : List ℕ). answer (programOrder l)) (take-all (bufferSize + 1) input fits)
     go false e =
         let more : bufferSize + 1 ≤ length input =

@@ -1,26 +1,31 @@
 -- The statements of specs/Statements.antt, proved.
 use Prim.Native.Nat.{ℕ, zero, suc, _<_, _≤_}
 use mathlib.Core.Path.{_≡_, refl, sym, ap, _∙_}
-use mathlib.Core.Bool.{Bool, true, false}
+use mathlib.Core.Bool.{Bool, true, false, _&&_}
 use mathlib.Core.List.{List, [], _∷_}
 use native.Mathlib.Omega.{arith}
+use lib.Dec.{eqb}
+use lib.Ieee.{Float}
 use lib.ListN.{getD, length}
-use borrow.Author.Tests.{eq-eqb}
-use Rattle.basis.specs.Order.{answer, andThen}
+use borrow.Author.Tests.{eq-eqb, ne-eqb}
+use Rattle.basis.specs.Numbers.{ROOM, FAULT}
+use Rattle.basis.specs.Order.{Order, answer, refused, andThen}
 use Rattle.basis.proofs.Order.{passes, fails}
+use Rattle.basis.proofs.Tests.{never, and-both}
 use Rattle.yard.specs.Rule9.{rangesHold}
 use Rattle.yard.specs.declared.world.Yard.{Yard}
 use Rattle.session.specs.Calls.{worldOrder, openOrder, readingOrder, deliverOrder}
 use Rattle.session.specs.Lent.{Lent}
-use Rattle.session.specs.Sound.{sound}
+use Rattle.session.specs.Sound.{room, sound}
 use Rattle.session.specs.declared.Session.{Session}
 use Rattle.session.proofs.Good.{good}
 use Rattle.session.proofs.Room.{width-most, height-most, carriers-most}
-use Rattle.station.specs.Words.{wordsOf, sessionOf}
+use Rattle.station.specs.Words.{wordsOf, sessionOf, nine}
 use Rattle.station.specs.Left.{Filled, filled, Left}
-use Rattle.station.specs.Face.{openFace, readingFace, deliverFace}
+use Rattle.station.specs.Face.{openFace, readingFace, deliverFace, shows, digestFace}
+use Rattle.station.specs.Face.{shownFace}
 use Rattle.station.specs.Statements.{NineWords, OneOutcome, OneLeft, Determined, Refusals}
-use Rattle.station.specs.Statements.{Thin}
+use Rattle.station.specs.Statements.{Lengths, Thin}
 
 session-back : (words : List ℕ) → length words ≡ 9 → wordsOf (sessionOf words) ≡ words
 unfolding wordsOf sessionOf
@@ -100,6 +105,60 @@ opens yard reading l words long = go (rangesHold yard) refl
         → answer (openFace yard reading l words) ≡ answer (openOrder yard reading l)
     go false e = fails _ _ e ∙ sym (fails _ _ e)
     go true e = passes _ _ e ∙ passes _ _ (eq-eqb _ _ long)
+
+-- A wrong length at opening.
+wrong-room : (yard : Yard) (reading : ℕ) (l : Lent) (words : List ℕ) → rangesHold yard ≡ true
+    → (room yard l && nine words) ≡ false → answer (openFace yard reading l words) ≡ refused ROOM
+unfolding openFace openOrder worldOrder andThen
+wrong-room yard reading l words e wrong = go (nine words) refl (room yard l) refl
+  where
+    go : (n : Bool) → nine words ≡ n → (r : Bool) → room yard l ≡ r
+        → answer (openFace yard reading l words) ≡ refused ROOM
+    go false n r q = passes _ _ e ∙ fails _ _ n
+    go true n false q = passes _ _ e ∙ passes _ _ n ∙ passes _ _ e ∙ fails _ _ q
+    go true n true q = never (and-both q n) wrong
+
+-- A session that isn't nine words.
+module _ (words : List ℕ) (h : length words ≡ 9 → ⊥) (l : Lent) where
+  reading-fault : (reading : ℕ) → answer (readingFace reading l words) ≡ refused FAULT
+  unfolding readingFace
+  reading-fault reading = fails _ _ (ne-eqb _ _ h)
+
+  deliver-fault : (bytes : List ℕ) → answer (deliverFace bytes l words) ≡ refused FAULT
+  unfolding deliverFace
+  deliver-fault bytes = fails _ _ (ne-eqb _ _ h)
+
+  shows-fault : {A B : Type 0} (count : ℕ) (out : List B) (order : Order A) (parts : A → List B)
+      → answer (shows count out words order parts) ≡ refused FAULT
+  unfolding shows
+  shows-fault count out order parts = go (eqb (length out) count) refl
+    where
+      go : (t : Bool) → eqb (length out) count ≡ t
+          → answer (shows count out words order parts) ≡ refused FAULT
+      go false e = fails _ _ e
+      go true e = passes _ _ e ∙ fails _ _ (ne-eqb _ _ h)
+
+  digest-fault : (out : List ℕ) → answer (digestFace l words out) ≡ refused FAULT
+  unfolding digestFace
+  digest-fault out = shows-fault 1 out _ _
+
+  shown-fault : (carrier : ℕ) (out : List Float)
+      → answer (shownFace carrier l words out) ≡ refused FAULT
+  unfolding shownFace
+  shown-fault carrier out = shows-fault 2 out _ _
+
+pub lengths : Lengths
+lengths =
+    record {
+      room = wrong-room;
+      fault =
+          λ words h l. (
+            reading-fault words h l,
+            deliver-fault words h l,
+            digest-fault words h l,
+            shown-fault words h l,
+          );
+    }
 
 readings : (reading : ℕ) (l : Lent) (words : List ℕ) → length words ≡ 9
     → answer (readingFace reading l words) ≡ answer (readingOrder (sessionOf words) l reading)

@@ -1,19 +1,21 @@
 -- What is claimed of the C face. proofs/Statements.antt proves each record whole.
 use Prim.Native.Nat.{ℕ, _<_}
 use mathlib.Core.Path.{_≡_}
-use mathlib.Core.Bool.{false}
+use mathlib.Core.Bool.{true, false, _&&_}
 use mathlib.Core.List.{List}
 use lib.Ieee.{Float}
 use lib.IntN.{ℤ}
 use lib.ListN.{getD, length}
+use Rattle.basis.specs.Numbers.{ROOM, FAULT}
 use Rattle.basis.specs.Order.{Answer, refused, answer}
+use Rattle.yard.specs.Rule9.{rangesHold}
 use Rattle.yard.specs.declared.world.Yard.{Yard}
 use Rattle.session.specs.Calls.{openOrder, readingOrder, deliverOrder, replayOrder}
 use Rattle.session.specs.Calls.{Delivery}
 use Rattle.session.specs.Lent.{Lent, Made}
-use Rattle.session.specs.Sound.{sound}
+use Rattle.session.specs.Sound.{room, sound}
 use Rattle.session.specs.declared.Session.{Session}
-use Rattle.station.specs.Words.{wordsOf, sessionOf}
+use Rattle.station.specs.Words.{wordsOf, sessionOf, nine}
 use Rattle.station.specs.Left.{Filled, filled, fills, Left, left, leavesRunning}
 use Rattle.station.specs.Left.{leavesDelivered}
 use Rattle.station.specs.Face.{logSound, stepRecordsFace, readRecordFace, writeRecordFace}
@@ -69,6 +71,19 @@ pub record Refusals : Type 1 where
       → leavesRunning l words a ≡ left n (l .state) (l .rows) (l .log) words
   pub delivered : (l : Lent) (words : List ℕ) (a : Answer (Made Delivery)) (n : ℕ) → a ≡ refused n
       → leavesDelivered l words a ≡ left n (l .state) (l .rows) (l .log) words
+
+-- The lengths that the C face adds.
+pub record Lengths : Type 0 where
+  -- At opening the session's length is one of the lengths of rule 10, tested with the others.
+  pub room : (yard : Yard) (reading : ℕ) (l : Lent) (words : List ℕ) → rangesHold yard ≡ true
+      → (room yard l && nine words) ≡ false
+      → answer (openFace yard reading l words) ≡ refused ROOM
+  -- After opening, a session that isn't nine words is 14, 'wrong lengths included'.
+  pub fault : (words : List ℕ) → (length words ≡ 9 → ⊥) → (l : Lent)
+      → ((reading : ℕ) → answer (readingFace reading l words) ≡ refused FAULT)
+      × ((bytes : List ℕ) → answer (deliverFace bytes l words) ≡ refused FAULT)
+      × ((out : List ℕ) → answer (digestFace l words out) ≡ refused FAULT)
+      × ((carrier : ℕ) (out : List Float) → answer (shownFace carrier l words out) ≡ refused FAULT)
 
 -- With nine words the C face answers as `session` does.
 pub record Thin : Type 0 where
