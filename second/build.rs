@@ -19,7 +19,7 @@ fn main() {
 fn link_library(home: &Path) {
     println!("cargo:rerun-if-env-changed=WUTHRACOMB_LIB_DIR");
     let given = env::var("WUTHRACOMB_LIB_DIR").map(PathBuf::from);
-    let folder = given.unwrap_or_else(|_| home.join("../target/lib"));
+    let folder = given.unwrap_or_else(|_| home.join("../target/staticlib"));
     let library = folder.join("libstation.a");
     if !library.exists() {
         println!("cargo:warning={} is missing; see README.md", library.display());
