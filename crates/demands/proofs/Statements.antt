@@ -1,15 +1,31 @@
 -- The statements of specs/Statements.antt, proved.
 use Prim.Native.Nat.{ℕ}
-use mathlib.Core.Path.{_≡_, subst}
+use mathlib.Core.Path.{_≡_, refl, subst}
 use mathlib.Core.List.{List}
+use mathlib.Core.Bool.{true}
+use borrow.Author.Tests.{eq-eqb}
+use lib.IntN.{pos}
+use lib.ListN.{replicate, length-replicate}
+use Rattle.basis.specs.Order.{answer, accepted}
+use Rattle.basis.proofs.Tests.{and-both}
+use Rattle.record.specs.Held.{bufferSize}
 use Rattle.record.proofs.Examples.{exampleL}
 use Rattle.clock.proofs.Examples.{exampleA, exampleB, exampleC, exampleD}
 use Rattle.yard.proofs.Examples.{examples}
+use Rattle.yard.specs.Free.{wall, share, covers, noWall, free}
+use Rattle.yard.specs.Ranges.{between, every}
+use Rattle.yard.specs.Rule9.{rangesHold, cellsHold, sizeHolds, sizesHold, startHolds, startsHold}
+use Rattle.yard.specs.World.{sizeOf}
 use Rattle.fleet.specs.State.{World}
+use Rattle.fleet.specs.Examples.{practice}
+use Rattle.session.specs.Lent.{Lent, lent}
+use Rattle.session.specs.Sound.{worldRoom, room}
+use Rattle.session.specs.Calls.{worldOrder}
+use Rattle.session.proofs.Openings.{open-gives}
 use Rattle.course.specs.Calls.{Call}
 use Rattle.course.proofs.Statements.{course}
 use Rattle.demands.specs.Handed.{Handed, Reached}
-use Rattle.demands.specs.Statements.{Demand2, Time, Lettered, Demands}
+use Rattle.demands.specs.Statements.{Demand2, Time, Met, Lettered, Demands}
 use Rattle.demands.proofs.Model.{model, lawful}
 use Rattle.demands.proofs.Sessions.{modelled}
 use Rattle.demands.proofs.Demand1.{determined, exactlyWhen}
@@ -27,6 +43,38 @@ module _ (world : World) (first : ℕ) (calls : List Call) (h : Handed)
       let m = modelled r in
       subst (Time first calls) (m .words)
       (course .fromHistory (model world) (lawful world (m .opens)) first calls .time)
+
+-- Buffers of the right lengths, whatever they hold.
+abbrev blank : Lent
+blank =
+    lent (practice .cells) (practice .boxes) (replicate 5 (pos 0)) (replicate 320 (pos 0))
+    (replicate bufferSize 0)
+
+long : room (practice .yard) blank ≡ true
+unfolding room worldRoom
+long =
+    and-both (and-both refl (eq-eqb _ _ (length-replicate 320 (pos 0))))
+    (eq-eqb _ _ (length-replicate {A = ℕ} bufferSize 0))
+
+fair : answer (worldOrder (practice .yard) (room (practice .yard) blank) (practice .cells)
+    (practice .boxes)) ≡ accepted tt
+unfolding worldOrder answer rangesHold cellsHold sizeHolds sizesHold startHolds startsHold free
+    sizeOf wall share covers noWall between every
+fair = rw long
+
+met : Met
+met =
+    record {
+      opens = λ first. (
+        _,
+        record {
+          state = blank .state;
+          rows = blank .rows;
+          log = blank .log;
+          accepts = open-gives (practice .yard) first blank fair;
+        },
+      );
+    }
 
 lettered : Lettered
 lettered =
@@ -53,5 +101,6 @@ demands =
       demand2 = second;
       time = time;
       demand3 = demand3;
+      met = met;
       lettered = lettered;
     }

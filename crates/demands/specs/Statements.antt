@@ -28,6 +28,7 @@ use Rattle.yard.specs.declared.world.Yard.{Yard}
 use Rattle.yard.specs.declared.carrier.Carrier.{Carrier}
 use Rattle.fleet.specs.State.{World, stateWords, carrier}
 use Rattle.fleet.specs.Run.{rowCount, rowOf}
+use Rattle.fleet.specs.Examples.{practice}
 use Rattle.course.specs.Calls.{Call, delivery, readingsOf}
 use Rattle.session.specs.declared.Session.{Session}
 use Rattle.session.specs.declared.Running.{Running}
@@ -40,7 +41,7 @@ use Rattle.session.specs.Sound.{sound}
 use Rattle.session.specs.Calls.{openOrder, readingOrder, deliverOrder, replayOrder, digestOrder}
 use Rattle.session.specs.Calls.{shownOrder, taken, held}
 use Rattle.session.specs.Answers.{runningOf, deliveredOf, digestedOf, replayLeft, replay}
-use Rattle.demands.specs.Handed.{Handed, lentIn, deliveryLeaves, next, run, Reached}
+use Rattle.demands.specs.Handed.{Handed, lentIn, deliveryLeaves, next, run, Opened, Reached}
 use Rattle.demands.specs.Handed.{heldBy, moved}
 
 -- 'any two outcomes allowed by it coincide': two outcomes of an entry, each as its contract has it.
@@ -205,6 +206,10 @@ pub record Demand3 (world : World) : Type 0 where
       → (h .result .clock .steps ≡ k .result .clock .steps)
       × (h .result .clock .remainder ≡ k .result .clock .remainder)
 
+-- The premises are met: the practice yard opens, with any first reading.
+pub record Met : Type 0 where
+  pub opens : (first : ℕ) → (h : Handed) × Opened practice first h
+
 -- 'Those with a letter are proved, as a single table under a single statement, of the definitions.'
 pub record Lettered : Type 0 where
   -- 'remainder 0, gap 19,999: 0 steps, remainder 19,999'
@@ -243,5 +248,6 @@ pub record Demands : Type 0 where
   pub time : (world : World) (first : ℕ) (calls : List Call) (h : Handed)
       → Reached world first calls h → Time first calls h
   pub demand3 : (world : World) → Demand3 world
+  pub met : Met
   -- 'Examples to hold against it'
   pub lettered : Lettered

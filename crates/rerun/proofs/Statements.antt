@@ -24,7 +24,7 @@ use Rattle.fleet.specs.Run.{run}
 use Rattle.fleet.specs.State.{carrier, wordsOf, put, freeFor, startTo}
 use Rattle.fleet.specs.Step.{stepOne, stepTo, stepAll}
 use Rattle.record.specs.Held.{leverAt}
-use Rattle.rerun.specs.Practice.{practiceYard}
+use Rattle.fleet.specs.Examples.{practice}
 use Rattle.rerun.specs.Rerun.{End, stepsPast, programOrder}
 use Rattle.rerun.specs.Statements.{Program, Examples}
 use Rattle.rerun.specs.Text.{decimalTo, wordText, wordsText, linesOf}
@@ -56,10 +56,10 @@ number e = cc
 -- The two tests of the program.
 only : (input : List ℕ) (n : ℕ) → answer (programOrder input) ≡ refused n → n ≡ LOG
 unfolding programOrder
-only input n q = go (leb (length input) bufferSize) refl (soundLog (practiceYard .b) input) refl
+only input n q = go (leb (length input) bufferSize) refl (soundLog (practice .yard .b) input) refl
   where
     go : (t : Bool) → leb (length input) bufferSize ≡ t
-        → (s : Bool) → soundLog (practiceYard .b) input ≡ s → n ≡ LOG
+        → (s : Bool) → soundLog (practice .yard .b) input ≡ s → n ≡ LOG
     go false e s p = number (sym q ∙ too-long input e)
     go true e false p = number (sym q ∙ unsound input e p)
     go true e true p = apart (sym q ∙ passes _ _ e ∙ passes _ _ p ∙ gives _)
@@ -70,7 +70,7 @@ unfolding programOrder
 steps input end q =
     let one = held _ _ _ q in
     let two = held _ _ _ (one .1) in
-    rw (← given _ (two .1)) (sound-within (practiceYard .b) input (two .0))
+    rw (← given _ (two .1)) (sound-within (practice .yard .b) input (two .0))
 
 pub program : Program
 program =

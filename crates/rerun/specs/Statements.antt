@@ -10,7 +10,7 @@ use Rattle.basis.specs.Order.{refused, accepted, answer}
 use Rattle.record.specs.Held.{bufferSize}
 use Rattle.record.specs.Log.{recordsOf, soundLog}
 use Rattle.session.specs.Calls.{replayOrder}
-use Rattle.rerun.specs.Practice.{practiceYard, practiceCells, practiceBoxes}
+use Rattle.fleet.specs.Examples.{practice, twoRecords}
 use Rattle.rerun.specs.Rerun.{End, stepsPast, endOf, programOrder}
 use Rattle.rerun.specs.Text.{programText}
 
@@ -26,23 +26,18 @@ pub record Program : Type 0 where
   pub only : (input : List ℕ) (n : ℕ) → answer (programOrder input) ≡ refused n → n ≡ LOG
   -- A sound log is replayed: whatever the state held, replay of it gives this state.
   pub replayed : (input : List ℕ) (state : List ℤ) → length state ≡ 5
-      → soundLog (practiceYard .b) input ≡ true
-      → answer (replayOrder practiceYard (stepsPast (recordsOf input)) practiceCells practiceBoxes
-      state input)
+      → soundLog (practice .yard .b) input ≡ true
+      → answer (replayOrder (practice .yard) (stepsPast (recordsOf input))
+      (practice .cells) (practice .boxes) state input)
       ≡ accepted (endOf (recordsOf input) .state)
   -- It never asks for more steps than a session makes.
   pub steps : (input : List ℕ) (end : End) → answer (programOrder input) ≡ accepted end
       → end .steps ≤ mostSteps
 
--- The records (0, 0, 1) and (2, 0, 9).
-abbrev pub brakeLog : List ℕ
-brakeLog =
-    0 ∷ 0 ∷ 0 ∷ 0 ∷ 0 ∷ 1 ∷ 0 ∷ 0 ∷ 2 ∷ 0 ∷ 0 ∷ 0 ∷ 0 ∷ 9 ∷ 0 ∷ 0 ∷ []
-
 -- 'Program, .. output whole'.
 pub record Examples : Type 0 where
-  -- `steps 3`, then `0 48 256 12 0 9`.
-  pub brake : programText (answer (programOrder brakeLog))
+  -- 'records (0, 0, 1) and (2, 0, 9)': `steps 3`, then `0 48 256 12 0 9`.
+  pub brake : programText (answer (programOrder twoRecords))
       ≡
       115 ∷ 116 ∷ 101 ∷ 112 ∷ 115 ∷ 32 ∷ 51 ∷ 10 ∷ 48 ∷ 32 ∷ 52 ∷ 56 ∷ 32 ∷ 50 ∷ 53 ∷ 54 ∷ 32 ∷
       49 ∷ 50 ∷ 32 ∷ 48 ∷ 32 ∷ 57 ∷ 10 ∷ []
