@@ -2,12 +2,12 @@
 use Prim.Native.Nat.{ℕ, _+_, _*_, _≤_}
 use mathlib.Core.Path.{_≡_, refl, sym, ap, _∙_}
 use mathlib.Core.List.{List}
-use mathlib.Core.Bool.{Bool, true, _&&_}
+use mathlib.Core.Bool.{Bool, true, false, _&&_}
 use native.Mathlib.Omega.{arith}
 use lib.ListN.{length}
 use Rattle.basis.specs.Numbers.{stepLength}
 use Rattle.basis.specs.LittleEndian.{Bytes}
-use Rattle.basis.proofs.Tests.{and-left, and-right}
+use Rattle.basis.proofs.Tests.{and-left, and-right, not-right}
 use Rattle.record.specs.Log.{records}
 use Rattle.record.specs.Held.{soundBuffer, Holds}
 use Rattle.record.proofs.Climbs.{Climbs, ascends}
@@ -58,6 +58,45 @@ module _ (session : Session) (l : Lent) where
         buffer = kept _ _ _ (and-right (a && b && c && d && f) g six);
         state = and-right (a && b && c && d && f && g) h e;
       }
+
+  -- A test that fails makes it unsound, whatever the others say.
+  pub bad-ranges : rangesHold (session .yard) ≡ false → sound session l ≡ false
+  unfolding sound
+  bad-ranges e = rw e
+
+  pub bad-room : room (session .yard) l ≡ false → sound session l ≡ false
+  unfolding sound
+  bad-room e = rw (not-right (rangesHold (session .yard)) (room (session .yard) l) e)
+
+  pub bad-cells : cellsHold (l .cells) ≡ false → sound session l ≡ false
+  unfolding sound
+  bad-cells e =
+      rw (not-right (rangesHold (session .yard) && room (session .yard) l) (cellsHold (l .cells)) e)
+
+  pub bad-sizes : sizesHold (session .yard) (l .boxes) ≡ false → sound session l ≡ false
+  unfolding sound
+  bad-sizes e =
+      rw (not-right (rangesHold (session .yard) && room (session .yard) l && cellsHold (l .cells))
+      (sizesHold (session .yard) (l .boxes)) e)
+
+  -- What is tested of the world and the lengths.
+  abbrev world : Bool
+  world =
+      rangesHold (session .yard)
+      && room (session .yard) l
+      && cellsHold (l .cells)
+      && sizesHold (session .yard) (l .boxes)
+
+  pub bad-clock : isSound stepLength (session .clock) ≡ false → sound session l ≡ false
+  unfolding sound
+  bad-clock e = rw (not-right world (isSound stepLength (session .clock)) e)
+
+  pub bad-buffer : soundBuffer (session .yard .b) (session .held) (l .log) ≡ false
+      → sound session l ≡ false
+  unfolding sound
+  bad-buffer e =
+      rw (not-right (world && isSound stepLength (session .clock))
+      (soundBuffer (session .yard .b) (session .held) (l .log)) e)
 
   module _ (g : Good session l) where
     pub world-fits : WorldFits (worldIn session l)

@@ -48,7 +48,8 @@ has-room-requires c κs = search needs
 
 check-world-requires : tie.Need-check-world-requires
 check-world-requires c κs = λ e.
-    let long = room-says _ _ (sym (c .has-room .ensures) ∙ e) in (long .world .cells, long .world .boxes)
+    let long = room-says _ _ (sym (c .has-room .ensures) ∙ e) in
+    (long .world .cells, long .world .boxes)
 
 enum-known-number : tie.Need-enum-known-number
 enum-known-number c = search needs
@@ -83,7 +84,9 @@ same-length-3 c = search needs
 returns : tie.Need-returns
 returns c =
     let w = c .before .before .before in
-    sym (ap (leaves _) (open-refuses _ _ (mem (w .before)) (told w ∙ ap checkedOf (c .before .number .given .1))))
+    sym
+    (ap (leaves _)
+    (open-refuses _ _ (mem (w .before)) (told w ∙ ap checkedOf (c .before .number .given .1))))
 
 same-length-4 : tie.Need-same-length-4
 same-length-4 c = search needs

@@ -1,7 +1,10 @@
 -- `sound::is_sound` meets its contract.
+use mathlib.Core.Path.{sym}
 use borrow.Author.Needs.{needs}
 use Rattle.yard.proofs.Fits.{cells-fit, boxes-fit}
 use Rattle.session.proofs.Room.{room-says}
+use Rattle.session.proofs.Good.{bad-ranges, bad-room, bad-cells, bad-sizes, bad-clock}
+use Rattle.session.proofs.Good.{bad-buffer}
 use Rattle.session.specs.Sound.{sound}
 use Rattle.yard.proofs.Cases.{passed, failed}
 use Rattle.session.proofs.sound.is_sound.Statement.{statement}
@@ -11,36 +14,19 @@ ranges-hold-requires : tie.Need-ranges-hold-requires
 ranges-hold-requires c κs = search needs
 
 returns : tie.Need-returns
-unfolding sound
-returns c = rw (failed (c .before .ranges-hold .ensures) (c .if1 .taken))
+returns c = sym (bad-ranges _ _ (failed (c .before .ranges-hold .ensures) (c .if1 .taken)))
 
 has-room-requires : tie.Need-has-room-requires
 has-room-requires c κs = search needs
 
 returns-2 : tie.Need-returns-2
-unfolding sound
-returns-2 c =
-    let l1 = c .before .before in
-    rw (
-      passed (l1 .before .ranges-hold .ensures) (l1 .if1 .left),
-      failed
-          (c .before .has-room .ensures) (c .if2 .taken),
-    )
+returns-2 c = sym (bad-room _ _ (failed (c .before .has-room .ensures) (c .if2 .taken)))
 
 cells-hold-requires : tie.Need-cells-hold-requires
 cells-hold-requires c κs = search needs
 
 returns-3 : tie.Need-returns-3
-unfolding sound
-returns-3 c =
-    let l2 = c .before .before in
-    let l1 = l2 .before .before in
-    rw (
-      passed (l1 .before .ranges-hold .ensures) (l1 .if1 .left),
-      passed (l2 .before .has-room
-          .ensures) (l2 .if2 .left),
-      failed (c .before .cells-hold .ensures) (c .if3 .taken),
-    )
+returns-3 c = sym (bad-cells _ _ (failed (c .before .cells-hold .ensures) (c .if3 .taken)))
 
 sizes-hold-requires : tie.Need-sizes-hold-requires
 sizes-hold-requires c κs =
@@ -50,64 +36,19 @@ sizes-hold-requires c κs =
     (room-says _ _ (passed (l2 .before .has-room .ensures) (l2 .if2 .left)) .world .boxes)
 
 returns-4 : tie.Need-returns-4
-unfolding sound
-returns-4 c =
-    let l3 = c .before .before in
-    let l2 = l3 .before .before in
-    let l1 = l2 .before .before in
-    rw (
-      passed (l1 .before .ranges-hold .ensures) (l1 .if1 .left),
-      passed
-          (l2 .before .has-room .ensures) (l2 .if2 .left),
-      passed (l3 .before .cells-hold .ensures)
-          (l3 .if3 .left),
-      failed (c .before .sizes-hold .ensures) (c .if4 .taken),
-    )
+returns-4 c = sym (bad-sizes _ _ (failed (c .before .sizes-hold .ensures) (c .if4 .taken)))
 
 is-sound-requires : tie.Need-is-sound-requires
 is-sound-requires c κs = search needs
 
 returns-5 : tie.Need-returns-5
-unfolding sound
-returns-5 c =
-    let l4 = c .before .before in
-    let l3 = l4 .before .before in
-    let l2 = l3 .before .before in
-    let l1 = l2 .before .before in
-    rw (
-      passed (l1 .before .ranges-hold .ensures) (l1 .if1 .left),
-      passed
-          (l2 .before .has-room .ensures) (l2 .if2 .left),
-      passed (l3 .before .cells-hold .ensures)
-          (l3 .if3 .left),
-      passed (l4 .before .sizes-hold .ensures) (l4 .if4 .left),
-      failed
-          (c .before .is-sound .ensures) (c .if5 .taken),
-    )
+returns-5 c = sym (bad-clock _ _ (failed (c .before .is-sound .ensures) (c .if5 .taken)))
 
 buffer-sound-requires : tie.Need-buffer-sound-requires
 buffer-sound-requires c κs = search needs
 
 returns-6 : tie.Need-returns-6
-unfolding sound
-returns-6 c =
-    let l5 = c .before .before in
-    let l4 = l5 .before .before in
-    let l3 = l4 .before .before in
-    let l2 = l3 .before .before in
-    let l1 = l2 .before .before in
-    rw (
-      passed (l1 .before .ranges-hold .ensures) (l1 .if1 .left),
-      passed
-          (l2 .before .has-room .ensures) (l2 .if2 .left),
-      passed (l3 .before .cells-hold .ensures)
-          (l3 .if3 .left),
-      passed (l4 .before .sizes-hold .ensures) (l4 .if4 .left),
-      passed
-          (l5 .before .is-sound .ensures) (l5 .if5 .left),
-      failed
-          (c .before .buffer-sound .ensures) (c .if6 .taken),
-    )
+returns-6 c = sym (bad-buffer _ _ (failed (c .before .buffer-sound .ensures) (c .if6 .taken)))
 
 state-sound-requires : tie.Need-state-sound-requires
 state-sound-requires c κs =
@@ -135,16 +76,13 @@ returns-7 c =
     let l1 = l2 .before .before in
     rw (
       passed (l1 .before .ranges-hold .ensures) (l1 .if1 .left),
-      passed
-          (l2 .before .has-room .ensures) (l2 .if2 .left),
-      passed (l3 .before .cells-hold .ensures)
-          (l3 .if3 .left),
+      passed (l2 .before .has-room .ensures) (l2 .if2 .left),
+      passed (l3 .before .cells-hold .ensures) (l3 .if3 .left),
       passed (l4 .before .sizes-hold .ensures) (l4 .if4 .left),
-      passed
-          (l5 .before .is-sound .ensures) (l5 .if5 .left),
-      passed
-          (l6 .before .buffer-sound .ensures) (l6 .if6 .left),
-    ) (c .state-sound .ensures)
+      passed (l5 .before .is-sound .ensures) (l5 .if5 .left),
+      passed (l6 .before .buffer-sound .ensures) (l6 .if6 .left),
+    )
+    (c .state-sound .ensures)
 
 pub is-sound-spec : {M : Type 1} → statement M
 is-sound-spec =
