@@ -1,7 +1,7 @@
 -- `step` meets its contract: each call gives its part of the definition, for a sound carrier.
 use borrow.Author.Needs.{needs}
 use Prim.Native.Nat.{_≤_}
-use mathlib.Core.Path.{_≡_}
+use mathlib.Core.Path.{_≡_, ap, _∙_}
 use mathlib.Core.Bool.{Bool}
 use lib.IntN.{ℤ, natAbs}
 use Rattle.yard.specs.declared.levers.Axis.the-variants.{X, Y}
@@ -60,7 +60,7 @@ lever-is c =
 
 position-is : (c : tie.After-magnitude) → let s = entry (c .before .before) in
     c .magnitude .result ≡ natAbs (lever s)
-position-is c = rw (c .magnitude .ensures, lever-is (c .before))
+position-is c = c .magnitude .ensures ∙ ap natAbs (lever-is (c .before))
 
 u-is : (c : tie.After-new-speed) → let s = entry (c .before .before .before) in
     read (c .new-speed .result) ≡ u s
