@@ -145,7 +145,7 @@ module _ (world : World) (opens : Opens world) (s : Session (model world)) (k : 
         rows = λ t made saved. rw log (row-is t made saved);
         unused = row-empty;
         long = flat-length (fits world opens s k);
-        log = rw log;
+        log = sym (ap bufferOf log);
         ascends = rw log (ascends (k .climbs));
         few = k .few;
         digest = rw log (digests ∙ rw state-is);
