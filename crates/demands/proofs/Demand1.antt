@@ -18,7 +18,9 @@ use Rattle.session.specs.declared.Digested.{Digested}
 use Rattle.session.specs.declared.Digested.the-variants as digested
 use Rattle.session.specs.Lent.{Lent, Left, left, Made, leaves}
 use Rattle.session.specs.Answers.{runningOf, deliveredOf, digestedOf, replayLeft, replay}
+use Rattle.session.proofs.Deliveries.{bytes-read}
 use Rattle.demands.specs.Statements.{Determined, ExactlyWhen}
+use Rattle.demands.proofs.Placing.{at-place}
 
 -- No two answers of the code stand for one answer.
 running-one : (a b : Running) → runningOf a ≡ runningOf b → a ≡ b
@@ -108,6 +110,8 @@ exactlyWhen =
       opening = λ yard reading l. refused-left l _;
       reading = λ session t l. refused-left l _;
       deliver = λ session bytes l. refused-left l _;
+      place = λ session bytes l r ok e.
+          rw (bytes-read session l bytes ok r e) (at-place session l r);
       replay = λ yard steps cells boxes state log. replay-left state _;
       digest = λ session l. exactly-number _;
       shown = λ session i l. exactly-number _;

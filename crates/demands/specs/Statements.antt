@@ -3,15 +3,16 @@
 use Prim.Native.Nat.{ℕ, _+_, _*_, _-_, _<_, _≤_}
 use mathlib.Core.Path.{_≡_}
 use mathlib.Core.Logic.{_↔_, _≢_}
-use mathlib.Core.Bool.{true}
+use mathlib.Core.Bool.{true, false}
 use mathlib.Core.List.{List, [], _∷_, List·Memᴰ}
+use mathlib.Core.Option.{none, some}
 use lib.IntN.{ℤ, pos}
 use lib.ListN.{length, take, replicate}
-use Rattle.basis.specs.Numbers.{FAULT, stepLength, mostRecords}
+use Rattle.basis.specs.Numbers.{CONFLICT, LATE, FULL, FAULT, stepLength, mostRecords}
 use Rattle.basis.specs.Order.{Answer, refused, accepted, Order, answer, First}
-use Rattle.record.specs.Bytes.{recordOf}
+use Rattle.record.specs.Bytes.{recordOf, readOrder}
 use Rattle.record.specs.Log.{ascending}
-use Rattle.record.specs.Held.{bufferOf}
+use Rattle.record.specs.Held.{bufferOf, leverAt}
 use Rattle.record.specs.Examples.{ExampleL}
 use Rattle.record.specs.declared.bytes.Record.{Record}
 use Rattle.clock.specs.History.{acceptedAfter, lastOf, NoneRefused, NoLongGap}
@@ -36,10 +37,10 @@ use Rattle.session.specs.declared.Delivered.{Delivered}
 use Rattle.session.specs.declared.Replayed.{Replayed}
 use Rattle.session.specs.declared.Replayed.the-variants as replayed
 use Rattle.session.specs.declared.Digested.{Digested}
-use Rattle.session.specs.Lent.{Lent, Left, left, Made, leaves}
+use Rattle.session.specs.Lent.{Lent, heldIn, Left, left, Made, leaves}
 use Rattle.session.specs.Sound.{sound}
 use Rattle.session.specs.Calls.{openOrder, readingOrder, deliverOrder, replayOrder, digestOrder}
-use Rattle.session.specs.Calls.{shownOrder, taken, held}
+use Rattle.session.specs.Calls.{shownOrder, Delivery, taken, held, holds, takeIn, rowGood}
 use Rattle.session.specs.Answers.{runningOf, deliveredOf, digestedOf, replayLeft, replay}
 use Rattle.demands.specs.Handed.{Handed, lentIn, deliveryLeaves, next, run, Opened, Reached}
 use Rattle.demands.specs.Handed.{heldBy, moved}
@@ -81,6 +82,39 @@ pub record Determined : Type 0 where
       → answerOf b ≡ answer (shownOrder session l i)
       → a ≡ b
 
+-- 'then 1 or 6, then 7, 8, and last 14 for the row': the answer to a delivery whose record is r.
+pub record AtPlace (session : Session) (l : Lent) (r : Record) (a : Answer (Made Delivery))
+    : Type 0 where
+  -- 1: 'the same 8 bytes are already held', so this lever at its place.
+  pub held : (a ≡ accepted (holds session l))
+      ↔ (leverAt (r .step) (r .carrier) (heldIn session l) ≡ some (r .lever))
+  -- 6: 'another lever is held at that place'
+  pub conflict : (a ≡ refused CONFLICT)
+      ↔ ((lever : ℕ)
+      × (leverAt (r .step) (r .carrier) (heldIn session l) ≡ some lever)
+      × (lever ≢ r .lever))
+  -- 7: nothing is held there, and 'record step + 64 is below the steps made'
+  pub late : (a ≡ refused LATE)
+      ↔ ((leverAt (r .step) (r .carrier) (heldIn session l) ≡ none)
+      × (r .step + rowCount < session .clock .steps))
+  -- 8: nor is it late, and '2,048 records are held'
+  pub full : (a ≡ refused FULL)
+      ↔ ((leverAt (r .step) (r .carrier) (heldIn session l) ≡ none)
+      × (session .clock .steps ≤ r .step + rowCount)
+      × (mostRecords ≤ session .held))
+  -- 14: there is room, and the row to be brought back breaks the state rule.
+  pub fault : (a ≡ refused FAULT)
+      ↔ ((leverAt (r .step) (r .carrier) (heldIn session l) ≡ none)
+      × (session .clock .steps ≤ r .step + rowCount)
+      × (session .held < mostRecords)
+      × (rowGood session l r ≡ false))
+  -- 0: none of these.
+  pub taken : (a ≡ accepted (takeIn session l r))
+      ↔ ((leverAt (r .step) (r .carrier) (heldIn session l) ≡ none)
+      × (session .clock .steps ≤ r .step + rowCount)
+      × (session .held < mostRecords)
+      × (rowGood session l r ≡ true))
+
 -- 'each given exactly when its rule says, and a refusal changes no session and no buffer': of each
 -- entry, a number comes back, and all is as it was, if and only if a test with this number is the
 -- first of document 01's order that fails.
@@ -97,6 +131,10 @@ pub record ExactlyWhen : Type 0 where
       → (leaves l (answer (deliverOrder session l bytes))
       ≡ left (refused n) (l .state) (l .rows) (l .log))
       ↔ First n (deliverOrder session l bytes)
+  -- The same of a delivery by its record, and of 0 and 1.
+  pub place : (session : Session) (bytes : List ℕ) (l : Lent) (r : Record)
+      → sound session l ≡ true → answer (readOrder (session .yard .b) bytes) ≡ accepted r
+      → AtPlace session l r (answer (deliverOrder session l bytes))
   pub replay : (yard : Yard) (steps : ℕ) (cells : List ℕ) (boxes state : List ℤ) (log : List ℕ)
       (n : ℕ)
       → (replay state (answer (replayOrder yard steps cells boxes state log))

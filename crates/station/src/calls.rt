@@ -3,7 +3,7 @@
 ghost use mathlib.Core.Path.{_≡_};
 ghost use Rattle.basis.specs.Order.{answer};
 ghost use Rattle.session.specs.Calls.{replayOrder};
-ghost use Rattle.session.specs.Lent.{lent};
+ghost use Rattle.session.specs.Lent.{Lent, lent};
 ghost use Rattle.station.specs.Face.{deliverFace, openFace, readingFace, yardOf};
 ghost use Rattle.station.specs.Left.{filled, fills, leavesDelivered, leavesRunning, left};
 use super::Face;
@@ -60,15 +60,12 @@ pub extern "C" fn wuthracomb_open(
     session: &mut [u64],
 ) -> u32
     ensures opened { λ r. ⌜
+        (let l : Lent =
+        lent (now (cells .entry)) (now (boxes .entry)) (now (state .entry))
+        (now (rows .entry)) (now (log .entry)) in
         left r (now (state .exit)) (now (rows .exit)) (now (log .exit)) (now (session .exit))
-        ≡ leavesRunning
-        (lent (now (cells .entry)) (now (boxes .entry)) (now (state .entry))
-        (now (rows .entry)) (now (log .entry)))
-        (now (session .entry))
-        (answer (openFace (yardOf w h b) reading
-        (lent (now (cells .entry)) (now (boxes .entry)) (now (state .entry))
-        (now (rows .entry)) (now (log .entry)))
-        (now (session .entry)))) ⌝ }
+        ≡ leavesRunning l (now (session .entry))
+        (answer (openFace (yardOf w h b) reading l (now (session .entry))))) ⌝ }
 {
     let yard = Yard { w, h, b };
     if !ranges_hold(yard) {
@@ -98,15 +95,12 @@ pub extern "C" fn wuthracomb_reading(
     session: &mut [u64],
 ) -> u32
     ensures read { λ r. ⌜
+        (let l : Lent =
+        lent (now (cells .entry)) (now (boxes .entry)) (now (state .entry))
+        (now (rows .entry)) (now (log .entry)) in
         left r (now (state .exit)) (now (rows .exit)) (now (log .entry)) (now (session .exit))
-        ≡ leavesRunning
-        (lent (now (cells .entry)) (now (boxes .entry)) (now (state .entry))
-        (now (rows .entry)) (now (log .entry)))
-        (now (session .entry))
-        (answer (readingFace reading
-        (lent (now (cells .entry)) (now (boxes .entry)) (now (state .entry))
-        (now (rows .entry)) (now (log .entry)))
-        (now (session .entry)))) ⌝ }
+        ≡ leavesRunning l (now (session .entry))
+        (answer (readingFace reading l (now (session .entry))))) ⌝ }
 {
     if !words_fit(session) {
         return wide(Number::FAULT);
@@ -133,15 +127,12 @@ pub extern "C" fn wuthracomb_deliver(
     session: &mut [u64],
 ) -> u32
     ensures delivered { λ r. ⌜
+        (let l : Lent =
+        lent (now (cells .entry)) (now (boxes .entry)) (now (state .entry))
+        (now (rows .entry)) (now (log .entry)) in
         left r (now (state .exit)) (now (rows .exit)) (now (log .exit)) (now (session .exit))
-        ≡ leavesDelivered
-        (lent (now (cells .entry)) (now (boxes .entry)) (now (state .entry))
-        (now (rows .entry)) (now (log .entry)))
-        (now (session .entry))
-        (answer (deliverFace (now (bytes .entry))
-        (lent (now (cells .entry)) (now (boxes .entry)) (now (state .entry))
-        (now (rows .entry)) (now (log .entry)))
-        (now (session .entry)))) ⌝ }
+        ≡ leavesDelivered l (now (session .entry))
+        (answer (deliverFace (now (bytes .entry)) l (now (session .entry))))) ⌝ }
 {
     if !words_fit(session) {
         return wide(Number::FAULT);
