@@ -4,6 +4,7 @@ use Prim.Native.Nat.{_≤_}
 use mathlib.Core.Path.{_≡_, ap, _∙_}
 use mathlib.Core.Bool.{Bool}
 use lib.IntN.{ℤ, natAbs}
+use Rattle.yard.specs.declared.levers.Axis.{Axis}
 use Rattle.yard.specs.declared.levers.Axis.the-variants.{X, Y}
 use Rattle.yard.specs.declared.slide.Moved.{Moved}
 use Rattle.yard.specs.declared.carrier.Carrier.{Carrier}
@@ -49,6 +50,11 @@ module _ (s : tie.Start) where
 abbrev entry : tie.After-struct-told5 → tie.Start
 entry c = c .before .before .before .before .before .before
 
+-- Moves at the same speed from the same place are the same.
+slides-alike : (place : ℤ → ℤ → Bool) (axis : Axis) {speed other x x′ y y′ : ℤ} → speed ≡ other
+    → x ≡ x′ → y ≡ y′ → slide place axis speed x y ≡ slide place axis other x′ y′
+slides-alike place axis e f g = rw (e, f, g)
+
 -- What each call gives.
 lever-is : (c : tie.After-lever-after) → read (c .lever-after .result) ≡ lever (entry (c .before))
 lever-is c =
@@ -86,12 +92,9 @@ along-x-is : (c : tie.After-slide) → let s = entry (c .before .before .before 
     c .slide .result ≡ along-x s
 along-x-is c =
     let w = the (entry (c .before .before .before .before .before)) in
-    rw (
-      c .slide .ensures,
-      u-is (c .before .before),
-      got (w .x) (search needs),
-      got (w .y) (search needs),
-    )
+    c .slide .ensures
+    ∙ slides-alike _ X (u-is (c .before .before)) (got (w .x) (search needs))
+    (got (w .y) (search needs))
 
 new-x-is : (c : tie.After-struct-told7) →
     let s = entry (c .before .before .before .before .before .before .before) in
@@ -104,12 +107,9 @@ along-y-is : (c : tie.After-slide2) →
     c .slide2 .result ≡ slide (place s) Y (v s) (along-x s .at) (the s .y)
 along-y-is c =
     let w = the (entry (c .before .before .before .before .before .before .before .before)) in
-    rw (
-      c .slide2 .ensures,
-      v-is (c .before .before .before .before),
-      new-x-is (c .before),
-      got (w .y) (search needs),
-    )
+    c .slide2 .ensures
+    ∙ slides-alike _ Y (v-is (c .before .before .before .before)) (new-x-is (c .before))
+    (got (w .y) (search needs))
 
 lever-after-requires : tie.Need-lever-after-requires
 lever-after-requires c κs = search needs
