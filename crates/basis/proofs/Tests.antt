@@ -65,6 +65,10 @@ pub says-either : {P Q : Type 0} {s t : Bool} → (s ≡ true) ↔ P → (t ≡ 
 says-either {s = true} p q = (λ e. inl (p .0 refl), λ h. refl)
 says-either {s = false} p q = (λ e. inr (q .0 e), ⊎-elim (λ h. never (p .1 h) refl) (q .1))
 
+pub neither : (s t : Bool) → (s || t) ≡ false → (s ≡ false) × (t ≡ false)
+neither true t e = never refl e
+neither false t e = (refl, e)
+
 -- Two tests that say one fact are one test.
 pub alike : {P : Type 0} {s t : Bool} → (s ≡ true) ↔ P → (t ≡ true) ↔ P → s ≡ t
 alike {s = true} p q = sym (q .1 (p .0 refl))

@@ -2,30 +2,30 @@
 use mathlib.Core.Path.{refl}
 use lib.Dec.{lit≤}
 use Rattle.basis.specs.Order.{answer}
-use Rattle.clock.specs.Clock.{due, ticked, isSound}
+use Rattle.clock.specs.Clock.{due, ticked, soundClock}
 use Rattle.clock.specs.Reading.{readingOrder}
 use Rattle.clock.specs.Examples.{ExampleA, ExampleB, ExampleC, ExampleD}
 use Rattle.clock.specs.Examples.{GroupingExample}
 use Rattle.clock.specs.History.{afterReadings, acceptedOf, NoLongGap}
 
 pub exampleA : ExampleA
-unfolding answer readingOrder isSound due ticked
+unfolding answer readingOrder soundClock due ticked
 exampleA = refl
 
 pub exampleB : ExampleB
-unfolding answer readingOrder isSound due ticked
+unfolding answer readingOrder soundClock due ticked
 exampleB = refl
 
 pub exampleC : ExampleC
-unfolding answer readingOrder isSound due ticked
+unfolding answer readingOrder soundClock due ticked
 exampleC = refl
 
 pub exampleD : ExampleD
-unfolding answer readingOrder isSound due ticked
+unfolding answer readingOrder soundClock due ticked
 exampleD = refl
 
 pub groupingExample : GroupingExample
-unfolding answer readingOrder isSound due ticked afterReadings acceptedOf NoLongGap
+unfolding answer readingOrder soundClock due ticked afterReadings acceptedOf NoLongGap
 groupingExample = (
   record { accepted = refl; short = (lit≤ tt, (lit≤ tt, (lit≤ tt, tt))); clock = refl },
   record { accepted = refl; short = (lit≤ tt, tt); clock = refl },

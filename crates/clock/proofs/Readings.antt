@@ -8,7 +8,7 @@ use borrow.Author.Tests.{leb-true, leb-false, le-leb, lt-leb}
 use Rattle.basis.specs.Numbers.{BACKWARD, END, FAULT, mostSteps}
 use Rattle.basis.specs.Order.{Answer, refused, accepted, check, give, answer}
 use Rattle.basis.proofs.Order.{passes, fails, gives}
-use Rattle.clock.specs.Clock.{due, isSound}
+use Rattle.clock.specs.Clock.{due, soundClock}
 use Rattle.clock.specs.Reading.{Given, givenBy, notBackward, notPastEnd, readingOrder}
 use Rattle.clock.specs.declared.Clock.{Clock}
 use Rattle.clock.proofs.Sound.{sound-says}
@@ -17,23 +17,23 @@ use Rattle.clock.proofs.Ticks.{equal-due, equal-ticked}
 module _ (length : ℕ) (clock : Clock) (reading : ℕ) where
   -- What the tests said where a reading is refused with 11, with 12, and where it is accepted.
   abbrev pub Below : Type 0
-  Below = (isSound length clock ≡ true) × (reading < clock .last)
+  Below = (soundClock length clock ≡ true) × (reading < clock .last)
 
   abbrev pub Past : Type 0
   Past =
-      (isSound length clock ≡ true)
+      (soundClock length clock ≡ true)
       × (clock .last ≤ reading)
       × (mostSteps < clock .steps + due length clock reading)
 
   abbrev pub Within : Type 0
   Within =
-      (isSound length clock ≡ true)
+      (soundClock length clock ≡ true)
       × (clock .last ≤ reading)
       × (clock .steps + due length clock reading ≤ mostSteps)
 
   -- An answer with what the tests said. To go by cases, match on `outcome-of`.
   pub data Outcome : Answer Given → Type 0 where
-    fault : isSound length clock ≡ false → Outcome (refused FAULT)
+    fault : soundClock length clock ≡ false → Outcome (refused FAULT)
     backward : Below → Outcome (refused BACKWARD)
     end : Past → Outcome (refused END)
     taken : Within → Outcome (accepted (givenBy length clock reading))
@@ -42,7 +42,7 @@ module _ (length : ℕ) (clock : Clock) (reading : ℕ) where
   unfolding readingOrder answer
   outcome-of = go _ _ _ refl refl refl
     where
-      go : (s f w : Bool) → isSound length clock ≡ s → notBackward clock reading ≡ f
+      go : (s f w : Bool) → soundClock length clock ≡ s → notBackward clock reading ≡ f
           → notPastEnd length clock reading ≡ w
           → Outcome
           (answer
@@ -53,7 +53,7 @@ module _ (length : ℕ) (clock : Clock) (reading : ℕ) where
       go true true true p q r = taken (p, leb-true _ _ q, leb-true _ _ r)
 
   -- From what the tests said to the answer.
-  pub is-fault : isSound length clock ≡ false
+  pub is-fault : soundClock length clock ≡ false
       → answer (readingOrder length clock reading) ≡ refused FAULT
   unfolding readingOrder
   is-fault s = fails _ _ s
@@ -77,10 +77,10 @@ module _ (length : ℕ) (clock : Clock) (reading : ℕ) where
   told a e = subst Outcome e outcome-of
 
   pub exactly-fault : (answer (readingOrder length clock reading) ≡ refused FAULT)
-      ↔ (isSound length clock ≡ false)
+      ↔ (soundClock length clock ≡ false)
   exactly-fault = (λ e. go (told _ e), is-fault)
     where
-      go : Outcome (refused FAULT) → isSound length clock ≡ false
+      go : Outcome (refused FAULT) → soundClock length clock ≡ false
       go (fault s) = s
 
   pub exactly-backward : (answer (readingOrder length clock reading) ≡ refused BACKWARD) ↔ Below
@@ -105,7 +105,7 @@ module _ (length : ℕ) (clock : Clock) (reading : ℕ) where
       go (taken w) = (w, refl)
 
 -- An equal reading is accepted, leaves the clock as it was and makes no step.
-pub equal-reading : (length : ℕ) (clock : Clock) → isSound length clock ≡ true
+pub equal-reading : (length : ℕ) (clock : Clock) → soundClock length clock ≡ true
     → answer (readingOrder length clock (clock .last))
     ≡ accepted (record { clock = clock; due = 0 })
 equal-reading length clock s =

@@ -60,8 +60,8 @@ timeEquation length clock =
     eqb (clock .last) (clock .first + (length * clock .steps + clock .remainder + clock .cut))
 
 -- '*Sound* means: .. steps, remainder .. within their limits; the time equation holds'
-unfoldable pub isSound : ℕ → Clock → Bool
-isSound length clock =
+unfoldable pub soundClock : ℕ → Clock → Bool
+soundClock length clock =
     remainderBelow length clock
     && stepsWithin clock
     && timeEquation length clock

@@ -9,8 +9,8 @@ use Rattle.clock.specs.Reading.{Given, readingOrder}
 use Rattle.clock.specs.History.{clockAfter, NoneRefused, NoLongGap}
 
 -- The answer to a reading with this gap, at a clock with this remainder that opened at 0.
-abbrev pub answerTo : ℕ → ℕ → Answer Given
-answerTo remainder gap =
+abbrev pub answerAfter : ℕ → ℕ → Answer Given
+answerAfter remainder gap =
     answer
     (readingOrder
     stepLength
@@ -20,7 +20,7 @@ answerTo remainder gap =
 -- A: remainder 0, gap 19,999: 0 steps, remainder 19,999.
 abbrev pub ExampleA : Type 0
 ExampleA =
-    answerTo 0 19999
+    answerAfter 0 19999
     ≡ accepted
     (record {
       clock = record { first = 0; last = 19999; remainder = 19999; cut = 0; steps = 0 };
@@ -30,7 +30,7 @@ ExampleA =
 -- B: gap 20,000: 1 step, remainder 0.
 abbrev pub ExampleB : Type 0
 ExampleB =
-    answerTo 0 20000
+    answerAfter 0 20000
     ≡ accepted
     (record {
       clock = record { first = 0; last = 20000; remainder = 0; cut = 0; steps = 1 };
@@ -40,7 +40,7 @@ ExampleB =
 -- C: remainder 19,999, gap 250,000: 13 steps, remainder 9,999.
 abbrev pub ExampleC : Type 0
 ExampleC =
-    answerTo 19999 250000
+    answerAfter 19999 250000
     ≡ accepted
     (record {
       clock = record { first = 0; last = 269999; remainder = 9999; cut = 0; steps = 13 };
@@ -50,7 +50,7 @@ ExampleC =
 -- D: remainder 0, gap 250,001: 12 steps, remainder 10,000, cut 1.
 abbrev pub ExampleD : Type 0
 ExampleD =
-    answerTo 0 250001
+    answerAfter 0 250001
     ≡ accepted
     (record {
       clock = record { first = 0; last = 250001; remainder = 10000; cut = 1; steps = 12 };

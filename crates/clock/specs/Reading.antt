@@ -4,7 +4,7 @@ use mathlib.Core.Bool.{Bool}
 use lib.Dec.{leb}
 use Rattle.basis.specs.Numbers.{BACKWARD, END, FAULT, mostSteps}
 use Rattle.basis.specs.Order.{Answer, refused, accepted, Order, check, give}
-use Rattle.clock.specs.Clock.{due, ticked, isSound}
+use Rattle.clock.specs.Clock.{due, ticked, soundClock}
 use Rattle.clock.specs.declared.Clock.{Clock}
 use Rattle.clock.specs.declared.Reading.{Reading}
 use Rattle.clock.specs.declared.Reading.the-variants.{Accepted, Refused}
@@ -30,7 +30,7 @@ notPastEnd length clock reading = leb (clock .steps + due length clock reading) 
 -- 'Reading: 14, 11, 12.' Of 14 the clock's own share: its words are sound.
 unfoldable pub readingOrder : ℕ → Clock → ℕ → Order Given
 readingOrder length clock reading =
-    check (isSound length clock) FAULT
+    check (soundClock length clock) FAULT
     (check (notBackward clock reading) BACKWARD
     (check (notPastEnd length clock reading) END
     (give (givenBy length clock reading))))

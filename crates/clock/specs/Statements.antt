@@ -6,7 +6,7 @@ use mathlib.Core.Bool.{Bool, true, false}
 use mathlib.Core.List.{List}
 use Rattle.basis.specs.Numbers.{BACKWARD, END, FAULT, mostSteps, stepLength}
 use Rattle.basis.specs.Order.{refused, accepted, answer}
-use Rattle.clock.specs.Clock.{longestGap, fresh, due, mostDue, isSound}
+use Rattle.clock.specs.Clock.{longestGap, fresh, due, mostDue, soundClock}
 use Rattle.clock.specs.Reading.{Given, givenBy, readingOrder, answerOf}
 use Rattle.clock.specs.History.{clockAfter, acceptedAfter, lastOf, cutTime}
 use Rattle.clock.specs.History.{NoneRefused, NoLongGap}
@@ -18,8 +18,8 @@ pub record Determined : Type 0 where
   -- `Clock::new`
   pub opened : (first : ℕ) {a b : Clock} → a ≡ fresh first → b ≡ fresh first → a ≡ b
   -- `Clock::is_sound`
-  pub sound : (clock : Clock) {a b : Bool} → a ≡ isSound stepLength clock
-      → b ≡ isSound stepLength clock → a ≡ b
+  pub sound : (clock : Clock) {a b : Bool} → a ≡ soundClock stepLength clock
+      → b ≡ soundClock stepLength clock → a ≡ b
   -- `Clock::read`
   pub read : (clock : Clock) (reading : ℕ) (a b : Reading)
       → answerOf a ≡ answer (readingOrder stepLength clock reading)
@@ -29,7 +29,7 @@ pub record Determined : Type 0 where
 -- 'each given exactly when its rule says' (demand 1), at any step length.
 pub record ExactlyWhen : Type 0 where
   -- Sound: the limits and the time equation hold, in whole numbers, and first isn't above last.
-  pub sound : (length : ℕ) (clock : Clock) → (isSound length clock ≡ true)
+  pub sound : (length : ℕ) (clock : Clock) → (soundClock length clock ≡ true)
       ↔ ((clock .remainder < length)
       × (clock .steps ≤ mostSteps)
       × (clock .first ≤ clock .last)
@@ -37,21 +37,21 @@ pub record ExactlyWhen : Type 0 where
   -- 14: the clock isn't sound.
   pub fault : (length : ℕ) (clock : Clock) (reading : ℕ)
       → (answer (readingOrder length clock reading) ≡ refused FAULT)
-      ↔ (isSound length clock ≡ false)
+      ↔ (soundClock length clock ≡ false)
   -- 11: it is sound, and the reading is below the last reading.
   pub backward : (length : ℕ) (clock : Clock) (reading : ℕ)
       → (answer (readingOrder length clock reading) ≡ refused BACKWARD)
-      ↔ ((isSound length clock ≡ true) × (reading < clock .last))
+      ↔ ((soundClock length clock ≡ true) × (reading < clock .last))
   -- 12: neither 14 nor 11, and steps made plus the steps due would pass 180,000.
   pub end : (length : ℕ) (clock : Clock) (reading : ℕ)
       → (answer (readingOrder length clock reading) ≡ refused END)
-      ↔ ((isSound length clock ≡ true)
+      ↔ ((soundClock length clock ≡ true)
       × (clock .last ≤ reading)
       × (mostSteps < clock .steps + due length clock reading))
   -- Accepted: none of the three, and this is what is given.
   pub given : (length : ℕ) (clock : Clock) (reading : ℕ) (given : Given)
       → (answer (readingOrder length clock reading) ≡ accepted given)
-      ↔ (((isSound length clock ≡ true)
+      ↔ (((soundClock length clock ≡ true)
       × (clock .last ≤ reading)
       × (clock .steps + due length clock reading ≤ mostSteps))
       × (givenBy length clock reading ≡ given))
@@ -59,7 +59,7 @@ pub record ExactlyWhen : Type 0 where
 -- An accepted reading: the clock before it, and what it gives.
 pub record OneReading (length : ℕ) (clock : Clock) (given : Given) : Type 0 where
   -- The new clock is sound.
-  pub sound : isSound length (given .clock) ≡ true
+  pub sound : soundClock length (given .clock) ≡ true
   -- The steps due are added to the steps made.
   pub steps : given .clock .steps ≡ clock .steps + given .due
   -- 'One reading makes at most 13 steps.'
@@ -85,13 +85,13 @@ pub record FromOpening (length opening : ℕ) (readings : List ℕ) (clock : Clo
 -- The clock at any step length from 1 on, so at 'any length from 1 to 250,000' (document 02, §13).
 pub record AnyLength : Type 0 where
   -- The fresh clock is sound.
-  pub opens : (length first : ℕ) → 0 < length → isSound length (fresh first) ≡ true
+  pub opens : (length first : ℕ) → 0 < length → soundClock length (fresh first) ≡ true
   -- Every accepted reading.
   pub reading : (length : ℕ) (clock : Clock) (reading : ℕ) (given : Given)
       → answer (readingOrder length clock reading) ≡ accepted given
       → OneReading length clock given
   -- 'An equal reading is accepted and makes no step.' Nor does it change the clock.
-  pub equal : (length : ℕ) (clock : Clock) → isSound length clock ≡ true
+  pub equal : (length : ℕ) (clock : Clock) → soundClock length clock ≡ true
       → answer (readingOrder length clock (clock .last))
       ≡ accepted (record { clock = clock; due = 0 })
   -- Every history, refused readings among it.

@@ -2,7 +2,7 @@
 ghost use mathlib.Core.Path.{_≡_};
 ghost use Rattle.basis.specs.Numbers.{stepLength};
 ghost use Rattle.basis.specs.Order.{answer};
-ghost use Rattle.clock.specs.Clock.{fresh, used, isSound};
+ghost use Rattle.clock.specs.Clock.{fresh, used, soundClock};
 ghost use Rattle.clock.specs.Reading.{readingOrder, answerOf};
 use basis::Limit;
 use basis::Number;
@@ -56,7 +56,7 @@ impl Clock {
 
     // Whether the limits and the time equation hold of these words.
     pub fn is_sound(self) -> bool
-        ensures sound { λ r. ⌜ r ≡ isSound stepLength self ⌝ }
+        ensures sound { λ r. ⌜ r ≡ soundClock stepLength self ⌝ }
     {
         if self.remainder >= Clock::LENGTH {
             return false;

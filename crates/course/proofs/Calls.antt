@@ -1,26 +1,22 @@
 -- Laws of calls: each answer with what its tests said, exactly when, and what a call leaves.
-use Prim.Native.Nat.{ℕ, _+_, _<_, _≤_}
-use mathlib.Core.Path.{_≡_, refl, sym, ap, subst, _∙_}
-use mathlib.Core.Logic.{_≢_, _↔_}
-use mathlib.Core.Bool.{Bool, true, false}
+use Prim.Native.Nat.{ℕ}
+use mathlib.Core.Path.{_≡_, refl, sym, ap, _∙_}
+use mathlib.Core.Bool.{true}
 use mathlib.Core.List.{List}
-use mathlib.Core.Option.{Option, none, some}
-use lib.Dec.{eqb}
-use lib.ListN.{length}
-use borrow.Author.Tests.{ltb-true, ltb-false, leb-true, leb-false, eqb-true, eqb-false}
-use borrow.Author.Tests.{lt-ltb, le-ltb, le-leb, lt-leb, eq-eqb, ne-eqb}
-use Rattle.basis.specs.Numbers.{CONFLICT, LATE, FULL, FAULT, mostRecords}
-use Rattle.basis.specs.Order.{Answer, refused, accepted, check, give, answer}
-use Rattle.basis.proofs.Order.{passes, fails, gives, apart, stops, goes-on}
+use mathlib.Core.Option.{Option, some}
+use Rattle.basis.specs.Order.{Answer, refused, accepted, answer}
+use Rattle.basis.proofs.Order.{gives, apart, stops, goes-on}
 use Rattle.record.specs.Bytes.{recordOf, readOrder}
 use Rattle.record.specs.Held.{leverAt}
 use Rattle.record.specs.declared.bytes.Record.{Record}
 use Rattle.record.proofs.OneRecord.{Within, reads}
+use Rattle.record.proofs.Placing.{ByRow, Placed, same, other, late, full, broken, takes}
+use Rattle.record.proofs.Placing.{told, is-held, is-taken}
 use Rattle.clock.specs.Reading.{Given, readingOrder}
-use Rattle.course.specs.World.{World, rowCount}
+use Rattle.course.specs.World.{World}
 use Rattle.course.specs.Session.{Session}
 use Rattle.course.specs.Calls.{Call, reading, delivery, Outcome, read, taken, held}
-use Rattle.course.specs.Calls.{readOn, takeIn, notLate, notFull, rowGood, placeOrder, orderOf}
+use Rattle.course.specs.Calls.{readOn, takeIn, foundIn, placeOrder, orderOf}
 use Rattle.course.specs.Calls.{answerTo, left, next}
 
 module _ {world : World} (s : Session world) where
@@ -29,121 +25,31 @@ module _ {world : World} (s : Session world) where
   heldAt r = leverAt (r .step) (r .carrier) (s .log)
 
   abbrev pub answerAt : Record → Answer (Outcome world)
-  answerAt r = answer (placeOrder s r (heldAt r))
+  answerAt r = answer (placeOrder s r)
 
   module _ (r : Record) where
-    -- What the tests said where the answer is 6, 7, 8, 14 and 0.
-    abbrev pub Other : Type 0
-    Other = (lever : ℕ) × (heldAt r ≡ some lever) × (lever ≢ r .lever)
+    -- What the tests said where the answer is TAKEN.
+    abbrev pub Takes : Type 0
+    Takes = ByRow r (foundIn s r) true
 
-    abbrev pub Late : Type 0
-    Late = (heldAt r ≡ none) × (r .step + rowCount < s .clock .steps)
+    -- An answer with what its tests said.
+    abbrev pub PlacedAs : Answer (Outcome world) → Type 0
+    PlacedAs = Placed r (foundIn s r) {A = Outcome world} held (taken (takeIn s r))
 
-    abbrev pub Full : Type 0
-    Full =
-        (heldAt r ≡ none)
-        × (s .clock .steps ≤ r .step + rowCount)
-        × (mostRecords ≤ length (s .log))
+    pub told-at : {a : Answer (Outcome world)} → answerAt r ≡ a → PlacedAs a
+    told-at e = told r (foundIn s r) _ _ e
 
-    abbrev pub Broken : Type 0
-    Broken =
-        (heldAt r ≡ none)
-        × (s .clock .steps ≤ r .step + rowCount)
-        × (rowGood s r ≡ false)
+    pub is-held-at : heldAt r ≡ some (r .lever) → answerAt r ≡ accepted held
+    is-held-at h = is-held r (foundIn s r) _ _ h
 
-    pub record Takes : Type 0 where
-      pub free : heldAt r ≡ none
-      pub timely : s .clock .steps ≤ r .step + rowCount
-      pub room : length (s .log) < mostRecords
-      pub row : rowGood s r ≡ true
+    pub is-taken-at : Takes → answerAt r ≡ accepted (taken (takeIn s r))
+    is-taken-at k = is-taken r (foundIn s r) _ _ k
 
-    -- An answer with what its tests said. To go by cases, match on `placed`.
-    pub data Placed : Answer (Outcome world) → Type 0 where
-      same : heldAt r ≡ some (r .lever) → Placed (accepted held)
-      other : Other → Placed (refused CONFLICT)
-      late : Late → Placed (refused LATE)
-      full : Full → Placed (refused FULL)
-      broken : Broken → Placed (refused FAULT)
-      takes : Takes → Placed (accepted (taken (takeIn s r)))
-
-    pub placed : Placed (answerAt r)
-    unfolding answer
-    placed = go (heldAt r) refl
+    pub tells-taken : (new : Session world) → answerAt r ≡ accepted (taken new)
+        → Takes × (takeIn s r ≡ new)
+    tells-taken new e = go (told-at e)
       where
-        by-lever : (lever : ℕ) → heldAt r ≡ some lever → (t : Bool) → eqb lever (r .lever) ≡ t
-            → Placed (answer (check t CONFLICT (give held)))
-        by-lever lever h true e = same (h ∙ ap some (eqb-true _ _ e))
-        by-lever lever h false e = other (lever, h, eqb-false _ _ e)
-
-        by-tests : heldAt r ≡ none → (a b c : Bool)
-            → notLate s r ≡ a → notFull s ≡ b → rowGood s r ≡ c
-            → Placed
-            (answer (check a LATE (check b FULL (check c FAULT (give (taken (takeIn s r)))))))
-        by-tests h false b c p q z = late (h, leb-false _ _ p)
-        by-tests h true false c p q z = full (h, leb-true _ _ p, ltb-false _ _ q)
-        by-tests h true true false p q z = broken (h, leb-true _ _ p, z)
-        by-tests h true true true p q z =
-            takes (record { free = h; timely = leb-true _ _ p; room = ltb-true _ _ q; row = z })
-
-        go : (at : Option ℕ) → heldAt r ≡ at → Placed (answer (placeOrder s r at))
-        go (some lever) h = by-lever lever h (eqb lever (r .lever)) refl
-        go none h = by-tests h _ _ _ refl refl refl
-
-    -- From what the tests said to the answer.
-    pub is-held : heldAt r ≡ some (r .lever) → answerAt r ≡ accepted held
-    is-held h = rw h (passes _ _ (eq-eqb (r .lever) (r .lever) refl) ∙ gives _)
-
-    is-other : Other → answerAt r ≡ refused CONFLICT
-    is-other (lever, h, d) = rw h (fails _ _ (ne-eqb lever (r .lever) d))
-
-    is-late : Late → answerAt r ≡ refused LATE
-    is-late (h, k) = rw h (fails _ _ (lt-leb _ _ k))
-
-    is-full : Full → answerAt r ≡ refused FULL
-    is-full (h, k, z) = rw h (passes _ _ (le-leb _ _ k) ∙ fails _ _ (le-ltb _ _ z))
-
-    pub is-taken : Takes → answerAt r ≡ accepted (taken (takeIn s r))
-    is-taken k =
-        rw (k .free)
-        (passes _ _ (le-leb _ _ (k .timely))
-        ∙ passes _ _ (lt-ltb _ _ (k .room))
-        ∙ passes _ _ (k .row)
-        ∙ gives _)
-
-    -- From the answer to what the tests said.
-    pub told : {a : Answer (Outcome world)} → answerAt r ≡ a → Placed a
-    told e = subst Placed e placed
-
-    pub exactly-held : (answerAt r ≡ accepted held) ↔ (heldAt r ≡ some (r .lever))
-    exactly-held = (λ e. go (told e), is-held)
-      where
-        go : Placed (accepted held) → heldAt r ≡ some (r .lever)
-        go (same h) = h
-
-    pub exactly-other : (answerAt r ≡ refused CONFLICT) ↔ Other
-    exactly-other = (λ e. go (told e), is-other)
-      where
-        go : Placed (refused CONFLICT) → Other
-        go (other w) = w
-
-    pub exactly-late : (answerAt r ≡ refused LATE) ↔ Late
-    exactly-late = (λ e. go (told e), is-late)
-      where
-        go : Placed (refused LATE) → Late
-        go (late w) = w
-
-    pub exactly-full : (answerAt r ≡ refused FULL) ↔ Full
-    exactly-full = (λ e. go (told e), is-full)
-      where
-        go : Placed (refused FULL) → Full
-        go (full w) = w
-
-    pub exactly-taken : (new : Session world)
-        → (answerAt r ≡ accepted (taken new)) ↔ (Takes × (takeIn s r ≡ new))
-    exactly-taken new =
-        (λ e. go (told e), λ w. is-taken (w .0) ∙ ap (λ u. accepted (taken u)) (w .1))
-      where
-        go : {new : Session world} → Placed (accepted (taken new)) → Takes × (takeIn s r ≡ new)
+        go : {new : Session world} → PlacedAs (accepted (taken new)) → Takes × (takeIn s r ≡ new)
         go (takes k) = (k, refl)
 
   -- What an answer leaves.
@@ -198,7 +104,7 @@ module _ {world : World} (s : Session world) where
     unfolding next
     take-keeps P here on = go byBytes refl
       where
-        by : {r : Record} {a : Answer (Outcome world)} → Within (world .carriers) r → Placed r a
+        by : {r : Record} {a : Answer (Outcome world)} → Within (world .carriers) r → PlacedAs r a
             → P (left s a)
         by w (same h) = here
         by w (other h) = here
@@ -210,7 +116,7 @@ module _ {world : World} (s : Session world) where
         go : (a : Answer Record) → byBytes ≡ a → P (left s (answerTo s (delivery bytes)))
         go (refused number) e = rw (is-malformed e) here
         go (accepted r) e =
-            rw (is-placed e) (by (reads (world .carriers) bytes r e .limits) (placed r))
+            rw (is-placed e) (by (reads (world .carriers) bytes r e .limits) (told-at r refl))
 
     -- What TAKEN says: the record in the bytes, what the tests said, and what is left.
     pub record Took (new : Session world) : Type 0 where
@@ -229,7 +135,7 @@ module _ {world : World} (s : Session world) where
         go (refused number) q = apart (sym (is-malformed q) ∙ e)
         go (accepted r) q =
             let found = reads (world .carriers) bytes r q in
-            let w = exactly-taken r new .0 (sym (is-placed q) ∙ e) in
+            let w = tells-taken r new (sym (is-placed q) ∙ e) in
             record {
               this = r;
               reads = q;

@@ -5,7 +5,7 @@ use Rattle.basis.specs.Order.{answer, andThen}
 use Rattle.record.specs.Bytes.{recordOf, bytesOf, wellFormed, limitsOrder, readOrder}
 use Rattle.record.specs.Log.{precedes}
 use Rattle.record.specs.Held.{leverAt, putIn}
-use Rattle.clock.specs.Clock.{due, ticked, isSound}
+use Rattle.clock.specs.Clock.{due, ticked, soundClock}
 use Rattle.clock.specs.Reading.{readingOrder}
 use Rattle.course.specs.World.{Lawful, after}
 use Rattle.course.specs.Session.{steps, withLog}
@@ -28,7 +28,7 @@ sized = record { start = refl; step = λ levers state e. refl }
 pub example : Example
 unfolding after answer andThen orderOf next run steps withLog
     readOrder limitsOrder wellFormed recordOf bytesOf precedes leverAt putIn
-    readingOrder isSound due ticked
+    readingOrder soundClock due ticked
 example =
     record {
       lawful = lawful;

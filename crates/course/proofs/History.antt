@@ -12,8 +12,8 @@ use Rattle.course.specs.Session.{Session, withLog}
 use Rattle.course.specs.Calls.{Call, reading, delivery, taken, held, answerTo, next, run}
 use Rattle.course.specs.Calls.{readingsOf}
 use Rattle.course.proofs.Levers.{At, at-same, put-own, put-other}
-use Rattle.course.proofs.Calls.{heldAt, Takes, is-held, byClock, readLeft, read-leaves}
-use Rattle.course.proofs.Calls.{is-placed, take-keeps, took-says}
+use Rattle.course.proofs.Calls.{heldAt, Takes, is-held-at, byClock, readLeft}
+use Rattle.course.proofs.Calls.{read-leaves, is-placed, take-keeps, took-says}
 
 module _ {world : World} where
   left-clock : (s : Session world) (a : Answer Given) → readLeft s a .clock ≡ clockLeft (s .clock) a
@@ -66,4 +66,4 @@ module _ {world : World} where
       let r = took .this in
       let here = subst (Stays r) (took .leaves) (put-own r (s .log)) in
       is-placed (run new between) bytes (took .reads)
-      ∙ is-held (run new between) r (stays r new between here)
+      ∙ is-held-at (run new between) r (stays r new between here)

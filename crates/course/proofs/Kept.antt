@@ -8,7 +8,7 @@ use native.Mathlib.Omega.{arith}
 use lib.Dec.{ltb, leb}
 use lib.ListN.{length}
 use borrow.Author.Tests.{ltb-true, ltb-false, leb-false}
-use Rattle.basis.specs.Numbers.{MALFORMED, CARRIER, LEVER, STEP, FAULT, mostRecords}
+use Rattle.basis.specs.Numbers.{MALFORMED, CARRIER, LEVER, STEP, FAULT, mostRecords, rowCount}
 use Rattle.basis.specs.Order.{Answer, refused, accepted, check, give, answer, First, later}
 use Rattle.basis.proofs.Order.{apart, exactly-number}
 use Rattle.basis.proofs.Tests.{never}
@@ -21,20 +21,22 @@ use Rattle.record.proofs.Levers.{lever-by}
 use Rattle.record.proofs.Logs.{AllWithin}
 use Rattle.record.proofs.Logs.{done as none-more}
 use Rattle.record.proofs.Insertion.{length-putIn, within-putIn, climbs-putIn}
+use Rattle.record.specs.Place.{rowServes}
+use Rattle.record.proofs.Placing.{broken}
 use Rattle.clock.specs.Reading.{Given}
 use Rattle.clock.proofs.Sound.{Sound, sound-says, is-sound}
 use Rattle.clock.proofs.Ticks.{fresh-sound}
 use Rattle.clock.proofs.Readings.{exactly-fault}
 use Rattle.clock.proofs.Statements.{anyLength}
-use Rattle.course.specs.World.{World, Lawful, rowCount, leversOf, after, rowsAfter}
+use Rattle.course.specs.World.{World, Lawful, leversOf, after, rowsAfter}
 use Rattle.course.specs.Session.{Session, Made, opening, rowOf, goBack, withLog}
-use Rattle.course.specs.Calls.{Call, reading, delivery, readOn, takeIn, rowGood}
+use Rattle.course.specs.Calls.{Call, reading, delivery, readOn, takeIn, foundIn}
 use Rattle.course.specs.Calls.{answerTo, next, run, Reached}
 use Rattle.course.proofs.Levers.{At, put-other}
 use Rattle.course.proofs.Records.{lever-held, within-held}
 use Rattle.course.proofs.Rows.{Agree, agree-below, madeAfter, after-agree, made-agree}
 use Rattle.course.proofs.Rows.{row-saved, steps-on, back-is}
-use Rattle.course.proofs.Calls.{Takes, Placed, broken, told, byClock, is-unread, is-read}
+use Rattle.course.proofs.Calls.{Takes, PlacedAs, told-at, byClock, is-unread, is-read}
 use Rattle.course.proofs.Calls.{readLeft, read-leaves, byBytes, is-malformed, is-placed}
 use Rattle.course.proofs.Calls.{take-keeps}
 
@@ -146,7 +148,7 @@ module _ {world : World} (law : Lawful world) where
       (good-after n within)
 
   pub row-good : {s : Session world} (r : Record) → Kept s → s .clock .steps ≤ r .step + rowCount
-      → rowGood s r ≡ true
+      → rowServes r (foundIn s r) ≡ true
   row-good {s} r k timely = go (leb n (r .step)) refl
     where
       n : ℕ
@@ -170,11 +172,11 @@ module _ {world : World} (law : Lawful world) where
           never (is-sound (k .clock)) unsound
   no-fault {s} k (delivery bytes) e = go (byBytes s bytes) refl
     where
-      by-row : {r : Record} → Placed s r (refused FAULT) → ⊥
-      by-row {r} (broken (h, timely, bad)) = never (row-good r k timely) bad
+      by-row : {r : Record} → PlacedAs s r (refused FAULT) → ⊥
+      by-row {r} (broken w) = never (row-good r k (w .timely)) (w .row)
 
       go : (a : Answer Record) → byBytes s bytes ≡ a → ⊥
-      go (accepted r) q = by-row (told s r (sym (is-placed s bytes q) ∙ e))
+      go (accepted r) q = by-row (told-at s r (sym (is-placed s bytes q) ∙ e))
       go (refused number) q =
           let same : number ≡ FAULT = cc (is-malformed s bytes q) in
           read-no-fault (world .carriers) bytes (q ∙ ap refused same)

@@ -11,8 +11,9 @@ use lib.Dec.{eqb}
 use lib.ListN.{length, getD, set, length-set, length-replicate, getD-replicate}
 use lib.Seq.{set-set, set-comm, getD-set-same, getD-set-other}
 use borrow.Author.Tests.{eqb-true, eqb-false}
+use Rattle.basis.specs.Numbers.{rowCount}
 use Rattle.record.specs.declared.bytes.Record.{Record}
-use Rattle.course.specs.World.{World, rowCount, after, rowsAfter}
+use Rattle.course.specs.World.{World, after, rowsAfter}
 use Rattle.course.specs.Session.{Made, steps, goBack}
 use Rattle.course.proofs.Records.{SameAt}
 

@@ -1,28 +1,33 @@
 -- The statements of specs/Statements.antt, proved.
 use Prim.Native.Nat.{ℕ, _+_, _<_, _≤_}
 use mathlib.Core.Path.{_≡_, sym, ap, subst, _∙_}
-use mathlib.Core.Logic.{_↔_}
+use mathlib.Core.Logic.{_↔_, _≢_}
+use mathlib.Core.Bool.{Bool, true, false, true≢false}
 use mathlib.Core.List.{List}
+use mathlib.Core.Option.{some}
 use native.Mathlib.Omega.{arith}
+use Rattle.basis.specs.Numbers.{rowCount}
 use Rattle.basis.specs.Order.{accepted}
 use Rattle.record.specs.Bytes.{recordOf}
 use Rattle.record.specs.declared.bytes.Record.{Record}
 use Rattle.record.proofs.OneRecord.{within-limits}
 use Rattle.record.proofs.Climbs.{ascends}
 use Rattle.record.proofs.Logs.{recordsOf-log, log-sound}
+use Rattle.record.proofs.Placing.{at-place}
+use Rattle.record.proofs.Placing as placing
 use Rattle.clock.proofs.Sound.{is-sound}
 use Rattle.clock.proofs.Statements.{anyLength}
-use Rattle.course.specs.World.{World, Lawful, rowCount}
+use Rattle.course.specs.World.{World, Lawful}
 use Rattle.course.specs.Session.{Session, opening, rowOf}
-use Rattle.course.specs.Calls.{Call, delivery, taken, answerTo, run, Holds}
+use Rattle.course.specs.Calls.{Call, Outcome, delivery, read, taken, held, answerTo, run}
+use Rattle.course.specs.Calls.{foundIn, Holds}
 use Rattle.course.specs.Statements.{Demand2, Replay, FromHistory, Same, Demand3, Reach}
-use Rattle.course.specs.Statements.{AtPlace, ExactlyWhen, Course}
+use Rattle.course.specs.Statements.{ExactlyWhen, OnEveryWorld}
 use Rattle.course.proofs.Levers.{earlier-lever}
 use Rattle.course.proofs.Records.{same-at, same-log, held-lever, lever-held, within-held}
 use Rattle.course.proofs.Rows.{after-agree, length-rows, row-saved, row-blank}
-use Rattle.course.proofs.Calls.{answerAt, exactly-held, exactly-other, exactly-late}
-use Rattle.course.proofs.Calls.{exactly-full, exactly-taken, leaves, is-unread, is-read}
-use Rattle.course.proofs.Calls.{is-malformed, is-placed, took-says}
+use Rattle.course.proofs.Calls.{heldAt, answerAt, PlacedAs, told-at, is-held-at, leaves}
+use Rattle.course.proofs.Calls.{is-unread, is-read, is-malformed, is-placed, took-says}
 use Rattle.course.proofs.Kept.{Kept, kept, good-after, row-good, no-fault, take-row}
 use Rattle.course.proofs.History.{clock-is, held-again}
 use Rattle.course.proofs.Swap.{places-differ, swap}
@@ -111,25 +116,23 @@ module _ {world : World} (law : Lawful world) where
             (record { below = λ t h carrier. earlier-lever t carrier n log h });
       }
 
-  at-place : {s : Session world} → Kept s → (r : Record) → AtPlace s r (answerAt s r)
-  at-place {s} k r =
-      let exactly = exactly-held s r in
-      record {
-        same = (
-          λ e. lever-held (s .log) (exactly .0 e),
-          λ held. exactly .1 (held-lever (k .climbs) held),
-        );
-        conflict = exactly-other s r;
-        late = exactly-late s r;
-        full = exactly-full s r;
-        takes = λ new.
-            let exactly = exactly-taken s r new in (
-              λ e. let w = exactly .0 e in (w .0 .free, w .0 .timely, w .0 .room, w .1),
-              λ w.
-                  let row = row-good law r k (w .1) in
-                  exactly .1 (record { free = w .0; timely = w .1; room = w .2; row = row }, w .3),
-            );
-      }
+  abbrev isHeld : Outcome world → Bool
+  isHeld held = true
+  isHeld (taken new) = false
+  isHeld (read new) = false
+
+  -- HELD is not TAKEN.
+  unlike : {new : Session world} → _≢_ {A = Outcome world} held (taken new)
+  unlike e = true≢false (ap isHeld e)
+
+  same : {s : Session world} → Kept s → (r : Record) → (answerAt s r ≡ accepted held) ↔ Holds s r
+  same {s} k r = (
+    λ e. lever-held (s .log) (by-held (told-at s r e)),
+    λ held. is-held-at s r (held-lever (k .climbs) held),
+  )
+    where
+      by-held : PlacedAs s r (accepted held) → heldAt s r ≡ some (r .lever)
+      by-held (placing.same h) = h
 
   exactly-when : {s : Session world} → Kept s → ExactlyWhen s
   exactly-when {s} k =
@@ -137,11 +140,12 @@ module _ {world : World} (law : Lawful world) where
         unread = λ t number. is-unread s t;
         reads = λ t given. is-read s t;
         malformed = λ bytes number. is-malformed s bytes;
-        atPlace = λ bytes r e. rw (is-placed s bytes e) (at-place k r);
+        atPlace = λ bytes r e. rw (is-placed s bytes e) (at-place r (foundIn s r) _ _ unlike);
+        same = λ bytes r e. rw (is-placed s bytes e) (same k r);
         refusal = λ call number. leaves s call;
       }
 
-pub course : Course
+pub course : OnEveryWorld
 course =
     record {
       demand2 = λ world law s p. demand2 law (kept law p);

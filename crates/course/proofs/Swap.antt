@@ -15,7 +15,7 @@ use Rattle.course.specs.Session.{Session, withLog}
 use Rattle.course.specs.Calls.{delivery, taken, takeIn, answerTo}
 use Rattle.course.proofs.Levers.{At, at-same, put-own, put-other, put-either}
 use Rattle.course.proofs.Records.{one-log}
-use Rattle.course.proofs.Calls.{Takes, is-taken, is-placed, Took, took-says}
+use Rattle.course.proofs.Calls.{Takes, is-taken-at, is-placed, Took, took-says}
 use Rattle.course.proofs.Kept.{Kept, kept-take, row-good}
 
 -- Sessions that keep, with one clock and one log, are one session.
@@ -100,8 +100,8 @@ module _ {world : World} (law : Lawful world) where
       let alike = same-end k (one .limits) (two .limits) (one .takes) (two .takes) in
       let v = takeIn s (two .this) in (
         v,
-        is-placed s b (two .reads) ∙ is-taken s (two .this) taken-b,
+        is-placed s b (two .reads) ∙ is-taken-at s (two .this) taken-b,
         is-placed v a (one .reads)
-            ∙ is-taken v (one .this) taken-a
+            ∙ is-taken-at v (one .this) taken-a
             ∙ ap (λ x. accepted (taken x)) (alike ∙ two .leaves),
       )

@@ -7,8 +7,9 @@ use native.Mathlib.Omega.{arith}
 use lib.ListN.{length, take, drop, getD, set, replicate, length-append, length-drop, length-set}
 use lib.ListN.{length-replicate, take-append-drop, replicate-append-replicate}
 use lib.Seq.{paste, take-at, drop-at, take-all, take-append-add, drop-append-add}
+use Rattle.basis.specs.Numbers.{rowCount}
 use Rattle.record.specs.declared.bytes.Record.{Record}
-use Rattle.course.specs.World.{rowCount, leversOf, after, rowsAfter}
+use Rattle.course.specs.World.{leversOf, after, rowsAfter}
 use Rattle.course.specs.Session.{Made, oneStep, steps, rowOf}
 use Rattle.course.specs.Words.{WordWorld, worldOf, Sized, Wide, done, more, Fits, rowsIn}
 use Rattle.course.proofs.Rows.{madeAfter}

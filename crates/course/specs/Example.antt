@@ -69,6 +69,7 @@ late = next hundred (sent 36 1 9)
 abbrev pub early : Session world
 early = sessionAfter world 0 (sent 36 1 9 ∷ sent 35 0 3 ∷ readings)
 
+-- What each call on it is answered, and what it leaves.
 pub record Example : Type 0 where
   -- The world is lawful, and its steps keep the width.
   pub lawful : Lawful world

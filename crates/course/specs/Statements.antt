@@ -1,34 +1,34 @@
--- What is claimed of every lawful world. `Course`, the last, says it all; proofs/Statements.antt
--- proves it. No premise is empty: Example.antt has a lawful world with sessions of each kind.
+-- What is claimed of every lawful world. `OnEveryWorld`, the last, says it all, and
+-- proofs/Statements.antt proves it. No premise is empty: Example.antt has a lawful world with
+-- sessions of each kind.
 use Prim.Native.Nat.{ℕ, _+_, _*_, _%_, _<_, _≤_}
 use mathlib.Core.Path.{_≡_}
 use mathlib.Core.Logic.{_↔_, _≢_}
 use mathlib.Core.Bool.{true}
 use mathlib.Core.List.{List, flatten}
-use mathlib.Core.Option.{none, some}
 use lib.ListN.{length, getD, take, drop, replicate}
 use lib.Seq.{paste}
-use Rattle.basis.specs.Numbers.{CONFLICT, LATE, FULL, FAULT, mostRecords, mostSteps}
-use Rattle.basis.specs.Order.{Answer, refused, accepted, answer}
+use Rattle.basis.specs.Numbers.{FAULT, mostRecords, mostSteps, rowCount}
+use Rattle.basis.specs.Order.{refused, accepted, answer}
 use Rattle.record.specs.Bytes.{recordOf, limitsOrder, readOrder}
 use Rattle.record.specs.Log.{ascending, logOf, recordsOf, soundLog}
-use Rattle.record.specs.Held.{leverAt}
+use Rattle.record.specs.Place.{AtPlace}
 use Rattle.record.specs.Part.{earlier}
 use Rattle.record.specs.declared.bytes.Record.{Record}
-use Rattle.clock.specs.Clock.{isSound}
+use Rattle.clock.specs.Clock.{soundClock}
 use Rattle.clock.specs.Reading.{Given, readingOrder}
 use Rattle.clock.specs.History.{clockAfter, acceptedAfter, lastOf, NoneRefused, NoLongGap}
 use Rattle.clock.specs.Statements.{FromOpening}
-use Rattle.course.specs.World.{World, Lawful, after, rowCount, rowsAfter}
+use Rattle.course.specs.World.{World, Lawful, after, rowsAfter}
 use Rattle.course.specs.Session.{Session, Made, opening, oneStep, rowOf}
-use Rattle.course.specs.Calls.{Call, reading, delivery, Outcome, read, taken, held}
+use Rattle.course.specs.Calls.{Call, reading, delivery, read, taken, held}
 use Rattle.course.specs.Calls.{readOn, takeIn, answerTo, next, run, sessionAfter, Reached}
-use Rattle.course.specs.Calls.{readingsOf, Holds}
+use Rattle.course.specs.Calls.{readingsOf, foundIn, Holds}
 use Rattle.course.specs.Words.{WordWorld, worldOf, Sized, Fits, rowsIn}
 
 -- Demand 2, of a session as in demand 3.
 pub record Demand2 {world : World} (s : Session world) : Type 0 where
-  -- 'After n steps the state is the start state moved n times by that rule under the records held.'
+  -- 'After n steps the state is the start state moved n times by that rule under the records held'
   pub state : s .made .state ≡ after world (s .clock .steps) (s .log)
   -- And the saved rows are those of n steps under the records held.
   pub rows : s .made .rows ≡ rowsAfter world (s .clock .steps) (s .log)
@@ -49,7 +49,7 @@ pub record Demand2 {world : World} (s : Session world) : Type 0 where
   -- rules 3 to 5 refuse none of them.
   pub limits : (r : Record) → Holds s r → answer (limitsOrder (world .carriers) r) ≡ accepted r
   -- The clock's words are sound.
-  pub clock : isSound (world .length) (s .clock) ≡ true
+  pub clock : soundClock (world .length) (s .clock) ≡ true
   -- 'A session makes at most 180,000.'
   pub steps : s .clock .steps ≤ mostSteps
   -- No call is answered 14.
@@ -75,7 +75,7 @@ pub record FromHistory (world : World) (first : ℕ) (calls : List Call) : Type 
       (acceptedAfter (world .length) first (readingsOf calls))
       (sessionAfter world first calls .clock)
 
--- Two sessions show the same, and it is that of demand 2.
+-- Two sessions have equal state, saved rows and log, 'and are those of demand 2'.
 pub record Same {world : World} (s u : Session world) : Type 0 where
   pub state : s .made .state ≡ u .made .state
   pub rows : s .made .rows ≡ u .made .rows
@@ -134,33 +134,7 @@ pub record Reach (world : World) : Type 0 where
   -- 'records for step n or later .. move nothing' (document 01, replay)
   pub later : (n : ℕ) (log : List Record) → after world n (earlier n log) ≡ after world n log
 
--- 'each given exactly when its rule says' (demand 1): how a delivery of this record is answered.
-pub record AtPlace {world : World} (s : Session world) (r : Record) (a : Answer (Outcome world))
-    : Type 0 where
-  -- 1: 'the same 8 bytes are already held', so the same record.
-  pub same : (a ≡ accepted held) ↔ Holds s r
-  -- 6: 'another lever is held at that place'
-  pub conflict : (a ≡ refused CONFLICT)
-      ↔ ((lever : ℕ)
-      × (leverAt (r .step) (r .carrier) (s .log) ≡ some lever)
-      × (lever ≢ r .lever))
-  -- 7: nothing is held there, and 'record step + 64 is below the steps made'
-  pub late : (a ≡ refused LATE)
-      ↔ ((leverAt (r .step) (r .carrier) (s .log) ≡ none)
-      × (r .step + rowCount < s .clock .steps))
-  -- 8: nothing is held there, it isn't late, and '2,048 records are held'
-  pub full : (a ≡ refused FULL)
-      ↔ ((leverAt (r .step) (r .carrier) (s .log) ≡ none)
-      × (s .clock .steps ≤ r .step + rowCount)
-      × (mostRecords ≤ length (s .log)))
-  -- 0: nothing is held there, it isn't late, there is room, and this is what it leaves.
-  pub takes : (new : Session world) → (a ≡ accepted (taken new))
-      ↔ ((leverAt (r .step) (r .carrier) (s .log) ≡ none)
-      × (s .clock .steps ≤ r .step + rowCount)
-      × (length (s .log) < mostRecords)
-      × (takeIn s r ≡ new))
-
--- The same of every call on a session as in demand 3.
+-- 'each given exactly when its rule says' (demand 1), of every call on a session as in demand 3.
 pub record ExactlyWhen {world : World} (s : Session world) : Type 0 where
   -- A reading is refused where the clock refuses it, with the clock's number;
   pub unread : (t number : ℕ)
@@ -177,11 +151,15 @@ pub record ExactlyWhen {world : World} (s : Session world) : Type 0 where
   -- otherwise its record's place decides.
   pub atPlace : (bytes : List ℕ) (r : Record)
       → answer (readOrder (world .carriers) bytes) ≡ accepted r
-      → AtPlace s r (answerTo s (delivery bytes))
+      → AtPlace r (foundIn s r) held (taken (takeIn s r)) (answerTo s (delivery bytes))
+  -- 1: 'the same 8 bytes are already held', so the same record.
+  pub same : (bytes : List ℕ) (r : Record)
+      → answer (readOrder (world .carriers) bytes) ≡ accepted r
+      → (answerTo s (delivery bytes) ≡ accepted held) ↔ Holds s r
   -- 'a refusal changes no session'
   pub refusal : (call : Call) (number : ℕ) → answerTo s call ≡ refused number → next s call ≡ s
 
--- The saved rows laid end to end: 'The saved rows are 64 states, 320·B words.'
+-- The saved rows laid end to end: 'The saved rows are 64 states, 320·B words'
 pub record FlatRows {A : Type 0} (words : WordWorld A) (made : Made (worldOf words))
     : Type 0 where
   pub long : length (flatten (made .rows)) ≡ rowCount * words .width
@@ -197,7 +175,7 @@ pub record FlatRows {A : Type 0} (words : WordWorld A) (made : Made (worldOf wor
   pub back : rowsIn (words .width) rowCount (flatten (made .rows)) ≡ made .rows
 
 -- All of it, of any lawful world.
-pub record Course : Type 1 where
+pub record OnEveryWorld : Type 1 where
   pub demand2 : (world : World) → Lawful world → (s : Session world) → Reached s → Demand2 s
   pub replay : (world : World) → Lawful world → (s : Session world) → Reached s → Replay s
   pub demand3 : (world : World) → Lawful world → Demand3 world

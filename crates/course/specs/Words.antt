@@ -5,7 +5,8 @@ use mathlib.Core.Bool.{Bool}
 use mathlib.Core.List.{List, [], _∷_}
 use mathlib.Core.Option.{Option}
 use lib.ListN.{length, take, drop, replicate}
-use Rattle.course.specs.World.{World, rowCount}
+use Rattle.basis.specs.Numbers.{rowCount}
+use Rattle.course.specs.World.{World}
 use Rattle.course.specs.Session.{Made}
 
 -- A world whose states are words.

@@ -3,7 +3,9 @@ use Prim.Native.Nat.{ℕ}
 use mathlib.Core.Path.{_≡_, refl, sym, ap, _∙_}
 use mathlib.Core.Logic.{_↔_}
 use mathlib.Core.List.{List}
+use native.Mathlib.Omega.{arith}
 use lib.IntN.{ℤ}
+use Rattle.basis.specs.Numbers.{TAKEN, HELD}
 use Rattle.basis.specs.Order.{Answer, refused, accepted, Order, answer, First}
 use Rattle.basis.proofs.Order.{apart, exactly-number}
 use Rattle.shown.proofs.Statements.{determined as shownDetermined}
@@ -16,11 +18,11 @@ use Rattle.session.specs.declared.Replayed.{Replayed}
 use Rattle.session.specs.declared.Replayed.the-variants as replayed
 use Rattle.session.specs.declared.Digested.{Digested}
 use Rattle.session.specs.declared.Digested.the-variants as digested
-use Rattle.session.specs.Lent.{Lent, Left, left, Made, leaves}
+use Rattle.session.specs.Lent.{Lent, made, Made, leaves}
+use Rattle.session.specs.Calls.{taken, held}
 use Rattle.session.specs.Answers.{runningOf, deliveredOf, digestedOf, replayLeft, replay}
-use Rattle.session.proofs.Deliveries.{bytes-read}
+use Rattle.session.proofs.Deliveries.{at-place, bytes-read}
 use Rattle.demands.specs.Statements.{Determined, ExactlyWhen}
-use Rattle.demands.proofs.Placing.{at-place}
 
 -- No two answers of the code stand for one answer.
 running-one : (a b : Running) → runningOf a ≡ runningOf b → a ≡ b
@@ -29,12 +31,23 @@ running-one (running.Open s) (running.Refused n) e = apart (sym e)
 running-one (running.Refused m) (running.Open t) e = apart e
 running-one (running.Refused m) (running.Refused n) e = cc
 
+given : {A : Type 0} {a b : A} → _≡_ {A = Answer A} (accepted a) (accepted b) → a ≡ b
+given e = cc
+
+-- TAKEN is not HELD.
+numbers-differ : {A : Type 0} {s t : Session} → taken s ≡ held t → A
+numbers-differ e =
+    let wrong : TAKEN ≡ HELD = ap (λ d. d .number) e in
+    absurd (omega (arith, wrong))
+
 delivered-one : (a b : Delivered) → deliveredOf a ≡ deliveredOf b → a ≡ b
-delivered-one (delivered.Taken s) (delivered.Taken t) e = cc
-delivered-one (delivered.Taken s) (delivered.Held t) e = cc
+delivered-one (delivered.Taken s) (delivered.Taken t) e =
+    ap delivered.Taken (ap (λ d. d .session) (given e))
+delivered-one (delivered.Taken s) (delivered.Held t) e = numbers-differ (given e)
 delivered-one (delivered.Taken s) (delivered.Refused n) e = apart (sym e)
-delivered-one (delivered.Held s) (delivered.Taken t) e = cc
-delivered-one (delivered.Held s) (delivered.Held t) e = cc
+delivered-one (delivered.Held s) (delivered.Taken t) e = numbers-differ (sym (given e))
+delivered-one (delivered.Held s) (delivered.Held t) e =
+    ap delivered.Held (ap (λ d. d .session) (given e))
 delivered-one (delivered.Held s) (delivered.Refused n) e = apart (sym e)
 delivered-one (delivered.Refused m) (delivered.Taken t) e = apart e
 delivered-one (delivered.Refused m) (delivered.Held t) e = apart e
@@ -48,9 +61,10 @@ digested-one (digested.Refused m) (digested.Refused n) e = cc
 
 -- What two equal outcomes have in common.
 module _ {A : Type 0} {a b : Answer A} {state state′ rows rows′ : List ℤ} {log log′ : List ℕ}
-    (what : Left A) (e : left a state rows log ≡ what) (f : left b state′ rows′ log′ ≡ what) where
+    (what : Made (Answer A)) (e : made a state rows log ≡ what)
+    (f : made b state′ rows′ log′ ≡ what) where
   one-answer : a ≡ b
-  one-answer = ap (λ l. l .answer) (e ∙ sym f)
+  one-answer = ap (λ l. l .result) (e ∙ sym f)
 
   one-state : state ≡ state′
   one-state = ap (λ l. l .state) (e ∙ sym f)
@@ -70,7 +84,7 @@ determined =
           (running-one a b (one-answer _ x y), one-state _ x y, one-rows _ x y);
       deliver = λ session bytes l a b s t r q f g x y.
           (delivered-one a b (one-answer _ x y), one-state _ x y, one-rows _ x y, one-log _ x y);
-      replay = λ before order a b s t x y.
+      replay = λ yard steps cells boxes before log a b s t x y.
           (ap (λ l. l .answer) (x ∙ sym y), ap (λ l. l .state) (x ∙ sym y));
       digest = λ session l a b x y. digested-one a b (x ∙ sym y);
       shown = λ session i l a b x y. shownDetermined .answer a b (x ∙ sym y);
@@ -78,19 +92,19 @@ determined =
 
 -- A refusal leaves its number and all as it was.
 refused-left : {A : Type 0} (l : Lent) (order : Order (Made A)) (n : ℕ)
-    → (leaves l (answer order) ≡ left (refused n) (l .state) (l .rows) (l .log)) ↔ First n order
+    → (leaves l (answer order) ≡ made (refused n) (l .state) (l .rows) (l .log)) ↔ First n order
 refused-left {A} l order n = (
   λ e. exactly-number order n .0 (go (answer order) e),
   λ f. ap (leaves l) (exactly-number order n .1 f),
 )
   where
-    go : (a : Answer (Made A)) → leaves l a ≡ left (refused n) (l .state) (l .rows) (l .log)
+    go : (a : Answer (Made A)) → leaves l a ≡ made (refused n) (l .state) (l .rows) (l .log)
         → a ≡ refused n
     go (refused m) e =
-        let numbers : _≡_ {A = Answer A} (refused m) (refused n) = ap (λ x. x .answer) e in
+        let numbers : _≡_ {A = Answer A} (refused m) (refused n) = ap (λ x. x .result) e in
         let same : m ≡ n = cc in
         ap refused same
-    go (accepted m) e = apart (sym (ap (λ x. x .answer) e))
+    go (accepted m) e = apart (sym (ap (λ x. x .result) e))
 
 replay-left : (state : List ℤ) (order : Order (List ℤ)) (n : ℕ)
     → (replay state (answer order) ≡ replayLeft (replayed.Refused n) state) ↔ First n order

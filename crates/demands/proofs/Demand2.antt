@@ -20,7 +20,7 @@ use Rattle.record.proofs.Climbs.{ascends}
 use Rattle.record.proofs.Logs.{length-logOf, recordsOf-log, log-sound}
 use Rattle.digest.specs.Fnv.{digestOf}
 use Rattle.digest.specs.Words.{stateBytes}
-use Rattle.shown.specs.Answer.{placeOf}
+use Rattle.shown.specs.Answer.{shownPlace}
 use Rattle.yard.specs.declared.carrier.Carrier.{Carrier}
 use Rattle.fleet.specs.State.{World, stateWords, carrier, soundState}
 use Rattle.fleet.specs.Step.{stepAt}
@@ -125,7 +125,7 @@ module _ (world : World) (opens : Opens world) (s : Session (model world)) (k : 
       → answer (shownOrder (handed world s .result) (lentIn world (handed world s)) i)
       ≡ accepted (let p : Carrier = carrier i (moved world (s .clock .steps - 1) (s .log)) in
       let c : Carrier = carrier i (moved world (s .clock .steps) (s .log)) in
-      placeOf stepLength (p .x) (p .y) (c .x) (c .y) (s .clock .remainder))
+      shownPlace stepLength (p .x) (p .y) (c .x) (c .y) (s .clock .remainder))
   unfolding shownOrder shownOf answer
   shows i below =
       rw (

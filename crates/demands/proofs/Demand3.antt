@@ -4,7 +4,8 @@ use mathlib.Core.Path.{_≡_, refl, sym, ap, subst, _∙_}
 use mathlib.Core.Bool.{Bool, true, false}
 use mathlib.Core.Logic.{_↔_, _≢_}
 use mathlib.Core.List.{List, [], _∷_, List·Memᴰ, flatten}
-use Rattle.basis.specs.Numbers.{stepLength}
+use lib.Dec.{eqb}
+use Rattle.basis.specs.Numbers.{TAKEN, stepLength}
 use Rattle.basis.specs.Order.{Answer, refused, accepted, answer}
 use Rattle.basis.proofs.Order.{apart}
 use Rattle.basis.proofs.Tests.{never}
@@ -17,13 +18,14 @@ use Rattle.course.specs.Statements.{Demand3 as Demand3Model}
 use Rattle.course.specs.Calls.{Call, delivery, Outcome, read, taken, held, answerTo}
 use Rattle.course.specs.Calls.{next as modelNext, run as modelRun, sessionAfter, readingsOf}
 use Rattle.course.specs.Calls.{Reached as ModelReached}
-use Rattle.course.proofs.Calls.{Placed, told, byBytes, is-malformed, is-placed}
+use Rattle.course.proofs.Calls.{PlacedAs, told-at, byBytes, is-malformed, is-placed}
 use Rattle.course.proofs.Calls.{leaves as leaves-model}
 use Rattle.course.proofs.Kept.{Kept, kept-next, kept-run}
 use Rattle.course.proofs.Statements.{course}
-use Rattle.session.specs.Lent.{left, leaves}
-use Rattle.session.specs.Calls.{Delivery, taken as tookWords, held as heldWords}
-use Rattle.demands.specs.Handed.{Handed, lentIn, deliveryLeaves, next, run, Reached, heldBy}
+use Rattle.session.specs.Lent.{made, leaves}
+use Rattle.session.specs.Calls.{Delivery, held as heldWords}
+use Rattle.demands.specs.Handed.{Handed, lentIn, deliveryLeaves, next, afterCalls, Reached}
+use Rattle.demands.specs.Handed.{heldBy}
 use Rattle.demands.specs.Statements.{Taken, Same, Demand3}
 use Rattle.demands.proofs.Model.{Opens, model, lawful}
 use Rattle.demands.proofs.Ties.{handed, mapped, asDelivered, same-delivery, same-records}
@@ -36,12 +38,12 @@ module _ (world : World) (opens : Opens world) (s : Session (model world)) (k : 
       → answerTo s (delivery bytes) ≡ accepted (read new) → A
   no-reading bytes {new} {A} e = go (byBytes s bytes) refl
     where
-      none : {r : Record} → Placed s r (accepted (read new)) → A
+      none : {r : Record} → PlacedAs s r (accepted (read new)) → A
       none p = elim p [ ]
 
       go : (a : Answer Record) → byBytes s bytes ≡ a → A
       go (refused number) q = apart (sym (is-malformed s bytes q) ∙ e)
-      go (accepted r) q = none (told s r (sym (is-placed s bytes q) ∙ e))
+      go (accepted r) q = none (told-at s r (sym (is-placed s bytes q) ∙ e))
 
   -- TAKEN in the words is TAKEN in the model, and back.
   pub record TakenAs (bytes : List ℕ) : Type 0 where
@@ -49,8 +51,7 @@ module _ (world : World) (opens : Opens world) (s : Session (model world)) (k : 
     pub taken : answerTo s (delivery bytes) ≡ accepted (taken new)
 
   abbrev saysTaken : Answer Delivery → Bool
-  saysTaken (accepted (tookWords session)) = true
-  saysTaken (accepted (heldWords session)) = false
+  saysTaken (accepted given) = eqb (given .number) TAKEN
   saysTaken (refused number) = false
 
   -- What a delivery leaves in the words, by the model's answer.
@@ -65,11 +66,11 @@ module _ (world : World) (opens : Opens world) (s : Session (model world)) (k : 
     where
       none : {a : Answer (Outcome (model world))} → answerTo s (delivery bytes) ≡ a
           → saysTaken
-          (leaves (lentIn world (handed world s)) (mapped (asDelivered world opens s k) a) .answer)
+          (leaves (lentIn world (handed world s)) (mapped (asDelivered world opens s k) a) .result)
           ≡ false
           → TakenAs bytes
       none e f =
-          never (ap saysTaken (sym (ap (λ l. l .answer) (left-by bytes e)) ∙ t .answer)) f
+          never (ap saysTaken (sym (ap (λ l. l .result) (left-by bytes e)) ∙ t .answer)) f
 
       go : (a : Answer (Outcome (model world))) → answerTo s (delivery bytes) ≡ a → TakenAs bytes
       go (accepted (taken new)) e = record { new = new; taken = e }
@@ -82,7 +83,7 @@ module _ (world : World) (opens : Opens world) (s : Session (model world)) (k : 
   as-taken bytes {new} e =
       record {
         session = handed world new .result;
-        answer = ap (λ l. l .answer) (left-by bytes e);
+        answer = ap (λ l. l .result) (left-by bytes e);
       }
 
   -- What a delivery that was taken leaves, and hands on.
@@ -122,21 +123,21 @@ module _ (world : World) (opens : Opens world) where
 
   again : (s : Session (model world)) → Kept s → (between : List Call) (bytes : List ℕ)
       → Taken world (handed world s) bytes
-      → (later : Handed) → run world (handed world s) (delivery bytes ∷ between) ≡ later
+      → (later : Handed) → afterCalls world (handed world s) (delivery bytes ∷ between) ≡ later
       → deliveryLeaves world later bytes
-      ≡ left (accepted (heldWords (later .result))) (later .state) (later .rows) (later .log)
-  unfolding run
+      ≡ made (accepted (heldWords (later .result))) (later .state) (later .rows) (later .log)
+  unfolding afterCalls
   again s k between bytes t later e =
       let took = taken-as world opens s k bytes t in
       let new = took .new in
       let kept = next-kept world opens s k bytes (took .taken) in
       let words : handed world (modelRun new between) ≡ later =
       sym (same-run world opens new kept between)
-      ∙ ap (λ h. run world h between) (sym (next-words world opens s k bytes (took .taken)))
+      ∙ ap (λ h. afterCalls world h between) (sym (next-words world opens s k bytes (took .taken)))
       ∙ e in
       subst
       (λ h. deliveryLeaves world h bytes
-      ≡ left (accepted (heldWords (h .result))) (h .state) (h .rows) (h .log))
+      ≡ made (accepted (heldWords (h .result))) (h .state) (h .rows) (h .log))
       words
       (left-by world opens (modelRun new between) (kept-run (lawful world opens) between kept) bytes
       (law .again s new bytes between (took .taken) .0))
@@ -147,8 +148,8 @@ module _ (world : World) (opens : Opens world) where
       → answerTo t (delivery b) ≡ accepted (taken u)
       → Taken world (handed world s) a
       × Taken world (next world (handed world s) (delivery a)) b
-      × (run world (handed world s) (delivery a ∷ delivery b ∷ []) ≡ handed world u)
-  unfolding run
+      × (afterCalls world (handed world s) (delivery a ∷ delivery b ∷ []) ≡ handed world u)
+  unfolding afterCalls
   both s k a b {t} e f =
       let kept = next-kept world opens s k a e in
       let words = next-words world opens s k a e in (
@@ -178,8 +179,8 @@ module _ (world : World) (opens : Opens world) where
   swap : (s : Session (model world)) → Kept s → ModelReached s → (a b : List ℕ) → Both s a b
       → Taken world (handed world s) b
       × Taken world (next world (handed world s) (delivery b)) a
-      × (run world (handed world s) (delivery b ∷ delivery a ∷ [])
-      ≡ run world (handed world s) (delivery a ∷ delivery b ∷ []))
+      × (afterCalls world (handed world s) (delivery b ∷ delivery a ∷ [])
+      ≡ afterCalls world (handed world s) (delivery a ∷ delivery b ∷ []))
   swap s k p a b t =
       let w = law .swap s (t .first) (t .second) a b p (t .takes) (t .then) in
       let other = both s k b a (w .1) (w .2) in
@@ -205,9 +206,9 @@ demand3 world =
       again = λ first calls between h later bytes p.
           let m = modelled p in
           subst
-          (λ x. Taken world x bytes → run world x (delivery bytes ∷ between) ≡ later
+          (λ x. Taken world x bytes → afterCalls world x (delivery bytes ∷ between) ≡ later
           → deliveryLeaves world later bytes
-          ≡ left (accepted (heldWords (later .result))) (later .state) (later .rows) (later .log))
+          ≡ made (accepted (heldWords (later .result))) (later .state) (later .rows) (later .log))
           (m .words)
           (λ t. again world (m .opens) (of m) (m .kept) between bytes t later);
       swap = λ first calls h a b p.
@@ -215,8 +216,8 @@ demand3 world =
           subst
           (λ x. Taken world x a → Taken world (next world x (delivery a)) b
           → Taken world x b × Taken world (next world x (delivery b)) a
-          × (run world x (delivery b ∷ delivery a ∷ [])
-          ≡ run world x (delivery a ∷ delivery b ∷ [])))
+          × (afterCalls world x (delivery b ∷ delivery a ∷ [])
+          ≡ afterCalls world x (delivery a ∷ delivery b ∷ [])))
           (m .words)
           (λ ta tb.
           swap world (m .opens) (of m) (m .kept) (m .reached) a b

@@ -2,7 +2,6 @@
 --   Model       a world that opening accepts, as a lawful world of the model
 --   Ties        the words of a session of the model, and what calls leave of them
 --   Sessions    every session as in demand 3 has the words of one of the model
---   Placing     a delivery by its record's place, number by number
 --   Demand1     each contract allows one outcome, and gives each number exactly when
 --   Demand2     the state, its rows, its log, its digest, its replay
 --   Demand3     two sessions of one world
@@ -10,7 +9,6 @@
 pub mod Model
 pub mod Ties
 pub mod Sessions
-pub mod Placing
 pub mod Demand1
 pub mod Demand2
 pub mod Demand3

@@ -17,7 +17,7 @@ use Rattle.course.proofs.Words.{flatten-replicate}
 use Rattle.session.specs.Lent.{Lent, lent, leaves}
 use Rattle.session.proofs.Room.{room-says}
 use Rattle.session.proofs.Openings.{opened-says}
-use Rattle.demands.specs.Handed.{Handed, lentIn, sessionOf, standing, next, run}
+use Rattle.demands.specs.Handed.{Handed, lentIn, standing, next, afterCalls}
 use Rattle.demands.specs.Handed.{Opened, Reached}
 use Rattle.demands.proofs.Model.{Opens, model, lawful}
 use Rattle.demands.proofs.Ties.{handed, mapped, asRead, asDelivered}
@@ -43,7 +43,7 @@ module _ (world : World) (opens : Opens world) where
       rw (same-delivery world opens s k bytes) (go (answerTo s (delivery bytes)))
     where
       go : (a : Answer (Outcome (model world)))
-          → standing sessionOf (handed world s .result)
+          → standing (λ d. d .session) (handed world s .result)
           (leaves (lentIn world (handed world s)) (mapped (asDelivered world opens s k) a))
           ≡ handed world (left s a)
       go (accepted (read new)) = refl
@@ -52,8 +52,8 @@ module _ (world : World) (opens : Opens world) where
       go (refused number) = refl
 
   pub same-run : (s : Session (model world)) → Kept s → (calls : List Call)
-      → run world (handed world s) calls ≡ handed world (modelRun s calls)
-  unfolding run modelRun
+      → afterCalls world (handed world s) calls ≡ handed world (modelRun s calls)
+  unfolding afterCalls modelRun
   same-run s k [] = refl
   same-run s k (call ∷ calls) =
       rw (same-next s k call)
@@ -104,6 +104,6 @@ modelled {world} {first} {calls} r =
       kept = kept-run (lawful world law) calls start;
       words =
           sym (same-run world law (opening (model world) first) start calls)
-          ∙ ap (λ h. run world h calls) (opened-words (r .opened))
+          ∙ ap (λ h. afterCalls world h calls) (opened-words (r .opened))
           ∙ r .leads;
     }

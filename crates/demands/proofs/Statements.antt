@@ -11,7 +11,8 @@ use Rattle.basis.proofs.Tests.{and-both}
 use Rattle.record.specs.Held.{bufferSize}
 use Rattle.record.proofs.Examples.{exampleL}
 use Rattle.clock.proofs.Examples.{exampleA, exampleB, exampleC, exampleD}
-use Rattle.yard.proofs.Examples.{examples}
+use Rattle.yard.proofs.Examples.{exampleE, exampleF, exampleG, exampleH, exampleI, exampleJ}
+use Rattle.yard.proofs.Examples.{exampleK}
 use Rattle.yard.specs.Free.{wall, share, covers, noWall, free}
 use Rattle.yard.specs.Ranges.{between, every}
 use Rattle.yard.specs.Rule9.{rangesHold, cellsHold, sizeHolds, sizesHold, startHolds, startsHold}
@@ -25,7 +26,7 @@ use Rattle.session.proofs.Openings.{open-gives}
 use Rattle.course.specs.Calls.{Call}
 use Rattle.course.proofs.Statements.{course}
 use Rattle.demands.specs.Handed.{Handed, Reached}
-use Rattle.demands.specs.Statements.{Demand2, Time, Met, Lettered, Demands}
+use Rattle.demands.specs.Statements.{Demand2, Time, SomeWorldOpens, Lettered, Demands}
 use Rattle.demands.proofs.Model.{model, lawful}
 use Rattle.demands.proofs.Sessions.{modelled}
 use Rattle.demands.proofs.Demand1.{determined, exactlyWhen}
@@ -62,7 +63,7 @@ unfolding worldOrder answer rangesHold cellsHold sizeHolds sizesHold startHolds 
     sizeOf wall share covers noWall between every
 fair = rw long
 
-met : Met
+met : SomeWorldOpens
 met =
     record {
       opens = λ first. (
@@ -83,13 +84,13 @@ lettered =
       b = exampleB;
       c = exampleC;
       d = exampleD;
-      e = examples .e;
-      f = examples .f;
-      g = examples .g;
-      h = examples .h;
-      i = examples .i;
-      j = examples .j;
-      k = examples .k;
+      e = exampleE;
+      f = exampleF;
+      g = exampleG;
+      h = exampleH;
+      i = exampleI;
+      j = exampleJ;
+      k = exampleK;
       l = exampleL;
     }
 

@@ -12,12 +12,13 @@ use lib.Dec.{ltb, leb, eqb}
 use lib.IntN.{ℤ, pos}
 use lib.ListN.{length, take, drop, length-drop}
 use lib.Seq.{length-take-le}
-use Rattle.basis.specs.Numbers.{FULL, LATE, FAULT, mostRecords}
+use Rattle.basis.specs.Numbers.{CONFLICT, FULL, LATE, FAULT}
 use Rattle.basis.specs.Order.{Answer, refused, accepted, Order, check, give, answer, andThen}
 use Rattle.basis.proofs.Order.{passes, stops, goes-on, apart}
 use Rattle.basis.proofs.Tests.{and-both}
 use Rattle.record.specs.Bytes.{readOrder}
-use Rattle.record.specs.Held.{bufferOf, leverAt, putIn}
+use Rattle.record.specs.Held.{bufferOf, putIn}
+use Rattle.record.specs.Place.{Found, byLever, byPlace}
 use Rattle.record.specs.declared.bytes.Record.{Record}
 use Rattle.record.proofs.Climbs.{ascends}
 use Rattle.record.proofs.Insertion.{length-putIn, length-buffer}
@@ -26,11 +27,11 @@ use Rattle.clock.specs.Reading.{Given}
 use Rattle.clock.proofs.Sound.{is-sound}
 use Rattle.fleet.specs.State.{World, worldOf, stateWords, soundState}
 use Rattle.fleet.specs.Step.{stepAt}
-use Rattle.fleet.specs.Run.{Course, courseOf, runSaving, rowOf, saved}
+use Rattle.fleet.specs.Run.{Course, courseOf, runSaving, rowOf, saved, goBack as backWords}
 use Rattle.fleet.proofs.Rows.{row-end}
 use Rattle.course.specs.Session.{Session, Made, steps, withLog, goBack}
 use Rattle.course.specs.Session.{rowOf as modelRow}
-use Rattle.course.specs.Calls.{Outcome, read, taken, held, readOn, takeIn, rowGood, placeOrder}
+use Rattle.course.specs.Calls.{Outcome, read, taken, held, readOn, takeIn, foundIn, placeOrder}
 use Rattle.course.specs.Calls.{orderOf, reading, delivery, answerTo}
 use Rattle.course.specs.Words.{Fits}
 use Rattle.course.proofs.Kept.{Kept, good-after}
@@ -39,9 +40,8 @@ use Rattle.session.specs.Lent.{heldIn}
 use Rattle.session.specs.Lent as Lent
 use Rattle.session.specs.Sound.{worldRoom, room, sound}
 use Rattle.session.specs.Calls.{Delivery, readOn as readWords, takeIn as takeWords}
-use Rattle.session.specs.Calls.{rowGood as rowWords, placeOrder as placeWords, holds}
-use Rattle.session.specs.Calls.{readingOrder, deliverOrder, goBack as backWords}
-use Rattle.session.specs.Calls.{taken as tookWords, held as heldWords}
+use Rattle.session.specs.Calls.{foundIn as foundWords, placeOrder as placeWords, unchanged}
+use Rattle.session.specs.Calls.{readingOrder, deliverOrder, taken as tookWords}
 use Rattle.demands.specs.Handed.{Handed, lentIn}
 use Rattle.demands.proofs.Model.{Opens, words, model, fitting, fitting-fits, sized, lawful}
 
@@ -142,6 +142,10 @@ goes-alike {A} f first rest other e alike = passes _ _ e ∙ go (answer first) r
     go (refused number) q = stops first other q ∙ sym (ap (mapped f) (stops first rest q))
     go (accepted a) q = goes-on first other q ∙ alike a ∙ sym (ap (mapped f) (goes-on first rest q))
 
+given : {B C : Type 0} (f : B → C) (b : B) → answer (give (f b)) ≡ mapped f (answer (give b))
+unfolding answer
+given f b = refl
+
 -- A test that both orders ask.
 same-check : {B C : Type 0} (f : B → C) (t : Bool) (number : ℕ) (rest : Order B) (other : Order C)
     → answer other ≡ mapped f (answer rest)
@@ -149,6 +153,19 @@ same-check : {B C : Type 0} (f : B → C) (t : Bool) (number : ℕ) (rest : Orde
 unfolding answer
 same-check f true number rest other e = e
 same-check f false number rest other e = refl
+
+-- A record's place asks the same of both.
+place-alike : {B C : Type 0} (f : B → C) (r : Record) (found : Found) (same new : B)
+    → answer (byPlace r found (f same) (f new)) ≡ mapped f (answer (byPlace r found same new))
+place-alike f r found same new = go (found .lever)
+  where
+    go : (lever : Option ℕ)
+        → answer (byLever r found (f same) (f new) lever)
+        ≡ mapped f (answer (byLever r found same new lever))
+    go (some lever) = same-check f _ CONFLICT (give same) _ (given f same)
+    go none =
+        same-check f _ LATE _ _
+        (same-check f _ FULL _ _ (same-check f _ FAULT (give new) _ (given f new)))
 
 module _ (world : World) (opens : Opens world) (s : Session (model world)) (k : Kept s) where
   -- A reading in the words, and in the model.
@@ -165,7 +182,7 @@ module _ (world : World) (opens : Opens world) (s : Session (model world)) (k : 
 
   -- Going back in the words, and in the model.
   same-back : (log : List Record) (t : ℕ)
-      → backWords (handed world s .result) (lentIn world (handed world s)) log t
+      → backWords world log t (s .clock .steps) (courseWords world opens log (s .made))
       ≡ courseWords world opens log (goBack log t (s .clock .steps) (s .made))
   same-back log t =
       let made : Made (model world) =
@@ -212,12 +229,16 @@ module _ (world : World) (opens : Opens world) (s : Session (model world)) (k : 
       go true back = rw (length-putIn r (s .log), add-one (length (s .log)))
       go false back = rw (length-putIn r (s .log), add-one (length (s .log)))
 
-  -- The row to be brought back, in the words and in the model.
-  same-good : (r : Record)
-      → rowWords (handed world s .result) (lentIn world (handed world s)) r ≡ rowGood s r
-  same-good r =
+  -- What decides of a record, in the words and in the model.
+  same-found : (r : Record)
+      → foundWords (handed world s .result) (lentIn world (handed world s)) r ≡ foundIn s r
+  same-found r =
       let t = r .step in
-      rw (same-row world opens s k t, eq-eqb _ _ (row-long world opens s k t))
+      rw (
+        same-records world opens s k,
+        same-row world opens s k t,
+        eq-eqb _ _ (row-long world opens s k t),
+      )
 
   -- What the model gives, as the words of a reading's answer and of a delivery's. (Each map has
   -- cases that its call doesn't give.)
@@ -229,7 +250,7 @@ module _ (world : World) (opens : Opens world) (s : Session (model world)) (k : 
   abbrev pub asDelivered : Outcome (model world) → Lent.Made Delivery
   asDelivered (read new) = tookAs (handed world new)
   asDelivered (taken new) = tookAs (handed world new)
-  asDelivered held = holds (handed world s .result) (lentIn world (handed world s))
+  asDelivered held = unchanged (handed world s .result) (lentIn world (handed world s))
 
   pub same-reading : (t : ℕ)
       → answer (readingOrder (handed world s .result) (lentIn world (handed world s)) t)
@@ -239,29 +260,21 @@ module _ (world : World) (opens : Opens world) (s : Session (model world)) (k : 
       goes-alike asRead _ (λ given. give (read (readOn s given))) _ (words-sound world opens s k)
       (λ given. ap accepted (same-read given))
 
-  same-place : (r : Record) (at : Option ℕ)
-      → answer (placeWords (handed world s .result) (lentIn world (handed world s)) r at)
-      ≡ mapped asDelivered (answer (placeOrder s r at))
-  unfolding answer
-  same-place r (some lever) = same-check asDelivered (eqb lever (r .lever)) _ (give held) _ refl
-  same-place r none =
-      let row = rowGood s r in
-      let n = s .clock .steps in
-      let took = tookAs (handed world (takeIn s r)) in
-      let last : Order (Outcome (model world)) = give (taken (takeIn s r)) in
-      rw (same-good r, same-take r)
-      (same-check asDelivered (leb n (r .step + 64)) LATE
-      (check (ltb (length (s .log)) mostRecords) FULL (check row FAULT last)) _
-      (same-check asDelivered (ltb (length (s .log)) mostRecords) FULL (check row FAULT last) _
-      (same-check asDelivered row FAULT last (give took) refl)))
+  same-place : (r : Record)
+      → answer (placeWords (handed world s .result) (lentIn world (handed world s)) r)
+      ≡ mapped asDelivered (answer (placeOrder s r))
+  same-place r =
+      ap
+      (λ found. answer (byPlace r found (asDelivered held)
+      (takeWords (handed world s .result) (lentIn world (handed world s)) r)))
+      (same-found r)
+      ∙ ap (λ took. answer (byPlace r (foundIn s r) (asDelivered held) took)) (same-take r)
+      ∙ place-alike asDelivered r (foundIn s r) held (taken (takeIn s r))
 
   pub same-delivery : (bytes : List ℕ)
       → answer (deliverOrder (handed world s .result) (lentIn world (handed world s)) bytes)
       ≡ mapped asDelivered (answerTo s (delivery bytes))
   unfolding deliverOrder orderOf
   same-delivery bytes =
-      goes-alike asDelivered (readOrder (world .yard .b) bytes)
-      (λ r. placeOrder s r (leverAt (r .step) (r .carrier) (s .log))) _
-      (words-sound world opens s k)
-      (λ r.
-      rw (same-records world opens s k) (same-place r (leverAt (r .step) (r .carrier) (s .log))))
+      goes-alike asDelivered (readOrder (world .yard .b) bytes) (λ r. placeOrder s r) _
+      (words-sound world opens s k) same-place

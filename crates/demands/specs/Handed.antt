@@ -9,11 +9,11 @@ use Rattle.basis.specs.Order.{Answer, refused, accepted, answer}
 use Rattle.record.specs.Log.{records}
 use Rattle.record.specs.declared.bytes.Record.{Record}
 use Rattle.fleet.specs.State.{World, startState}
-use Rattle.fleet.specs.Run as runs
+use Rattle.fleet.specs.Run.{run}
 use Rattle.course.specs.Calls.{Call, reading, delivery}
 use Rattle.session.specs.declared.Session.{Session}
-use Rattle.session.specs.Lent.{Lent, lent, Left, Made, leaves}
-use Rattle.session.specs.Calls.{openOrder, readingOrder, deliverOrder, Delivery, taken, held}
+use Rattle.session.specs.Lent.{Lent, lent, Made, leaves}
+use Rattle.session.specs.Calls.{openOrder, readingOrder, deliverOrder, Delivery}
 
 -- What is handed from call to call: the session, and the state, rows and log as they stand.
 abbrev pub Handed : Type 0
@@ -23,44 +23,41 @@ Handed = Made Session
 abbrev pub lentIn : World → Handed → Lent
 lentIn world h = lent (world .cells) (world .boxes) (h .state) (h .rows) (h .log)
 
--- The session that a delivery gives.
-abbrev pub sessionOf : Delivery → Session
-sessionOf (taken session) = session
-sessionOf (held session) = session
-
 -- The session after an answer: the one given; a refusal leaves it as it was.
-abbrev pub sessionAfter : {A : Type 0} → (A → Session) → Session → Answer A → Session
-sessionAfter given before (accepted a) = given a
-sessionAfter given before (refused number) = before
+abbrev pub sessionLeft : {A : Type 0} → (A → Session) → Session → Answer A → Session
+sessionLeft given before (accepted a) = given a
+sessionLeft given before (refused number) = before
 
--- What stands where a call has left this.
-abbrev pub standing : {A : Type 0} → (A → Session) → Session → Left A → Handed
-standing given before left =
+-- What a call hands on: the session after its answer, and the buffers as it left them.
+abbrev pub standing : {A : Type 0} → (A → Session) → Session → Made (Answer A) → Handed
+standing given before call =
     record {
-      result = sessionAfter given before (left .answer);
-      state = left .state;
-      rows = left .rows;
-      log = left .log;
+      result = sessionLeft given before (call .result);
+      state = call .state;
+      rows = call .rows;
+      log = call .log;
     }
 
--- What a reading leaves, and what a delivery leaves: the right sides of their contracts.
-abbrev pub readingLeaves : World → Handed → ℕ → Left Session
+-- What a reading leaves: the right side of its contract.
+abbrev pub readingLeaves : World → Handed → ℕ → Made (Answer Session)
 readingLeaves world h t =
     leaves (lentIn world h) (answer (readingOrder (h .result) (lentIn world h) t))
 
-abbrev pub deliveryLeaves : World → Handed → List ℕ → Left Delivery
+-- What a delivery leaves, in the same way.
+abbrev pub deliveryLeaves : World → Handed → List ℕ → Made (Answer Delivery)
 deliveryLeaves world h bytes =
     leaves (lentIn world h) (answer (deliverOrder (h .result) (lentIn world h) bytes))
 
 -- What a call hands on.
 unfoldable pub next : World → Handed → Call → Handed
 next world h (reading t) = standing (λ session. session) (h .result) (readingLeaves world h t)
-next world h (delivery bytes) = standing sessionOf (h .result) (deliveryLeaves world h bytes)
+next world h (delivery bytes) =
+    standing (λ d. d .session) (h .result) (deliveryLeaves world h bytes)
 
 -- 'each call given what the last one left'
-unfoldable pub run : World → Handed → List Call → Handed
-run world h [] = h
-run world h (call ∷ calls) = run world (next world h call) calls
+unfoldable pub afterCalls : World → Handed → List Call → Handed
+afterCalls world h [] = h
+afterCalls world h (call ∷ calls) = afterCalls world (next world h call) calls
 
 -- 'opened on one world': opening was accepted and left this, whatever the buffers held.
 pub record Opened (world : World) (first : ℕ) (h : Handed) : Type 0 where
@@ -74,7 +71,11 @@ pub record Opened (world : World) (first : ℕ) (h : Handed) : Type 0 where
 pub record Reached (world : World) (first : ℕ) (calls : List Call) (h : Handed) : Type 0 where
   pub opening : Handed
   pub opened : Opened world first opening
-  pub leads : run world opening calls ≡ h
+  pub leads : afterCalls world opening calls ≡ h
+
+-- 'the number of steps made, n'
+abbrev pub stepsMade : Handed → ℕ
+stepsMade h = h .result .clock .steps
 
 -- 'the records held'
 abbrev pub heldBy : Handed → List Record
@@ -82,4 +83,4 @@ heldBy h = records (h .result .held) (h .log)
 
 -- 'the start state moved n times by that rule under the records held'
 abbrev pub moved : World → ℕ → List Record → List ℤ
-moved world n records = runs.run world records 0 n (startState world)
+moved world n records = run world records 0 n (startState world)

@@ -5,14 +5,14 @@ use mathlib.Core.Path.{_≡_}
 use mathlib.Core.Logic.{_↔_, _≢_}
 use mathlib.Core.Bool.{true, false}
 use mathlib.Core.List.{List, [], _∷_, List·Memᴰ}
-use mathlib.Core.Option.{none, some}
 use lib.IntN.{ℤ, pos}
 use lib.ListN.{length, take, replicate}
-use Rattle.basis.specs.Numbers.{CONFLICT, LATE, FULL, FAULT, stepLength, mostRecords}
-use Rattle.basis.specs.Order.{Answer, refused, accepted, Order, answer, First}
+use Rattle.basis.specs.Numbers.{FAULT, stepLength, mostRecords, rowCount}
+use Rattle.basis.specs.Order.{refused, accepted, Order, answer, First}
 use Rattle.record.specs.Bytes.{recordOf, readOrder}
 use Rattle.record.specs.Log.{ascending}
-use Rattle.record.specs.Held.{bufferOf, leverAt}
+use Rattle.record.specs.Held.{bufferOf}
+use Rattle.record.specs.Place.{AtPlace}
 use Rattle.record.specs.Examples.{ExampleL}
 use Rattle.record.specs.declared.bytes.Record.{Record}
 use Rattle.clock.specs.History.{acceptedAfter, lastOf, NoneRefused, NoLongGap}
@@ -20,7 +20,7 @@ use Rattle.clock.specs.Statements.{FromOpening}
 use Rattle.clock.specs.Examples.{ExampleA, ExampleB, ExampleC, ExampleD}
 use Rattle.digest.specs.Fnv.{digestOf}
 use Rattle.digest.specs.Words.{stateBytes}
-use Rattle.shown.specs.Answer.{placeOf, answerOf}
+use Rattle.shown.specs.Answer.{shownPlace, answerOf}
 use Rattle.shown.specs.declared.Place.{Place}
 use Rattle.shown.specs.declared.Shown.{Shown}
 use Rattle.yard.specs.Examples.{ExampleE, ExampleF, ExampleG, ExampleH, ExampleI, ExampleJ}
@@ -28,7 +28,7 @@ use Rattle.yard.specs.Examples.{ExampleK}
 use Rattle.yard.specs.declared.world.Yard.{Yard}
 use Rattle.yard.specs.declared.carrier.Carrier.{Carrier}
 use Rattle.fleet.specs.State.{World, stateWords, carrier}
-use Rattle.fleet.specs.Run.{rowCount, rowOf}
+use Rattle.fleet.specs.Run.{rowOf}
 use Rattle.fleet.specs.Examples.{practice}
 use Rattle.course.specs.Calls.{Call, delivery, readingsOf}
 use Rattle.session.specs.declared.Session.{Session}
@@ -37,13 +37,13 @@ use Rattle.session.specs.declared.Delivered.{Delivered}
 use Rattle.session.specs.declared.Replayed.{Replayed}
 use Rattle.session.specs.declared.Replayed.the-variants as replayed
 use Rattle.session.specs.declared.Digested.{Digested}
-use Rattle.session.specs.Lent.{Lent, heldIn, Left, left, Made, leaves}
+use Rattle.session.specs.Lent.{Lent, made, leaves}
 use Rattle.session.specs.Sound.{sound}
 use Rattle.session.specs.Calls.{openOrder, readingOrder, deliverOrder, replayOrder, digestOrder}
-use Rattle.session.specs.Calls.{shownOrder, Delivery, taken, held, holds, takeIn, rowGood}
+use Rattle.session.specs.Calls.{shownOrder, taken, held, foundIn, unchanged, takeIn}
 use Rattle.session.specs.Answers.{runningOf, deliveredOf, digestedOf, replayLeft, replay}
-use Rattle.demands.specs.Handed.{Handed, lentIn, deliveryLeaves, next, run, Opened, Reached}
-use Rattle.demands.specs.Handed.{heldBy, moved}
+use Rattle.demands.specs.Handed.{Handed, lentIn, deliveryLeaves, next, afterCalls, Opened}
+use Rattle.demands.specs.Handed.{Reached, stepsMade, heldBy, moved}
 
 -- 'any two outcomes allowed by it coincide': two outcomes of an entry, each as its contract has it.
 -- A lent slice that an entry can't write is no part of its outcome.
@@ -51,25 +51,26 @@ pub record Determined : Type 0 where
   -- `Session::open`
   pub opening : (yard : Yard) (reading : ℕ) (l : Lent) (a b : Running)
       (state state′ rows rows′ : List ℤ) (log log′ : List ℕ)
-      → left (runningOf a) state rows log ≡ leaves l (answer (openOrder yard reading l))
-      → left (runningOf b) state′ rows′ log′ ≡ leaves l (answer (openOrder yard reading l))
+      → made (runningOf a) state rows log ≡ leaves l (answer (openOrder yard reading l))
+      → made (runningOf b) state′ rows′ log′ ≡ leaves l (answer (openOrder yard reading l))
       → (a ≡ b) × (state ≡ state′) × (rows ≡ rows′) × (log ≡ log′)
   -- `Session::reading`
   pub reading : (session : Session) (t : ℕ) (l : Lent) (a b : Running)
       (state state′ rows rows′ : List ℤ)
-      → left (runningOf a) state rows (l .log) ≡ leaves l (answer (readingOrder session l t))
-      → left (runningOf b) state′ rows′ (l .log) ≡ leaves l (answer (readingOrder session l t))
+      → made (runningOf a) state rows (l .log) ≡ leaves l (answer (readingOrder session l t))
+      → made (runningOf b) state′ rows′ (l .log) ≡ leaves l (answer (readingOrder session l t))
       → (a ≡ b) × (state ≡ state′) × (rows ≡ rows′)
   -- `Session::deliver`
   pub deliver : (session : Session) (bytes : List ℕ) (l : Lent) (a b : Delivered)
       (state state′ rows rows′ : List ℤ) (log log′ : List ℕ)
-      → left (deliveredOf a) state rows log ≡ leaves l (answer (deliverOrder session l bytes))
-      → left (deliveredOf b) state′ rows′ log′ ≡ leaves l (answer (deliverOrder session l bytes))
+      → made (deliveredOf a) state rows log ≡ leaves l (answer (deliverOrder session l bytes))
+      → made (deliveredOf b) state′ rows′ log′ ≡ leaves l (answer (deliverOrder session l bytes))
       → (a ≡ b) × (state ≡ state′) × (rows ≡ rows′) × (log ≡ log′)
   -- `replay`
-  pub replay : (before : List ℤ) (order : Order (List ℤ)) (a b : Replayed) (state state′ : List ℤ)
-      → replayLeft a state ≡ replay before (answer order)
-      → replayLeft b state′ ≡ replay before (answer order)
+  pub replay : (yard : Yard) (steps : ℕ) (cells : List ℕ) (boxes before : List ℤ) (log : List ℕ)
+      (a b : Replayed) (state state′ : List ℤ)
+      → replayLeft a state ≡ replay before (answer (replayOrder yard steps cells boxes before log))
+      → replayLeft b state′ ≡ replay before (answer (replayOrder yard steps cells boxes before log))
       → (a ≡ b) × (state ≡ state′)
   -- `digest`
   pub digest : (session : Session) (l : Lent) (a b : Digested)
@@ -82,59 +83,27 @@ pub record Determined : Type 0 where
       → answerOf b ≡ answer (shownOrder session l i)
       → a ≡ b
 
--- 'then 1 or 6, then 7, 8, and last 14 for the row': the answer to a delivery whose record is r.
-pub record AtPlace (session : Session) (l : Lent) (r : Record) (a : Answer (Made Delivery))
-    : Type 0 where
-  -- 1: 'the same 8 bytes are already held', so this lever at its place.
-  pub held : (a ≡ accepted (holds session l))
-      ↔ (leverAt (r .step) (r .carrier) (heldIn session l) ≡ some (r .lever))
-  -- 6: 'another lever is held at that place'
-  pub conflict : (a ≡ refused CONFLICT)
-      ↔ ((lever : ℕ)
-      × (leverAt (r .step) (r .carrier) (heldIn session l) ≡ some lever)
-      × (lever ≢ r .lever))
-  -- 7: nothing is held there, and 'record step + 64 is below the steps made'
-  pub late : (a ≡ refused LATE)
-      ↔ ((leverAt (r .step) (r .carrier) (heldIn session l) ≡ none)
-      × (r .step + rowCount < session .clock .steps))
-  -- 8: nor is it late, and '2,048 records are held'
-  pub full : (a ≡ refused FULL)
-      ↔ ((leverAt (r .step) (r .carrier) (heldIn session l) ≡ none)
-      × (session .clock .steps ≤ r .step + rowCount)
-      × (mostRecords ≤ session .held))
-  -- 14: there is room, and the row to be brought back breaks the state rule.
-  pub fault : (a ≡ refused FAULT)
-      ↔ ((leverAt (r .step) (r .carrier) (heldIn session l) ≡ none)
-      × (session .clock .steps ≤ r .step + rowCount)
-      × (session .held < mostRecords)
-      × (rowGood session l r ≡ false))
-  -- 0: none of these.
-  pub taken : (a ≡ accepted (takeIn session l r))
-      ↔ ((leverAt (r .step) (r .carrier) (heldIn session l) ≡ none)
-      × (session .clock .steps ≤ r .step + rowCount)
-      × (session .held < mostRecords)
-      × (rowGood session l r ≡ true))
-
 -- 'each given exactly when its rule says, and a refusal changes no session and no buffer': of each
 -- entry, a number comes back, and all is as it was, if and only if a test with this number is the
 -- first of document 01's order that fails.
 pub record ExactlyWhen : Type 0 where
   pub opening : (yard : Yard) (reading : ℕ) (l : Lent) (n : ℕ)
       → (leaves l (answer (openOrder yard reading l))
-      ≡ left (refused n) (l .state) (l .rows) (l .log))
+      ≡ made (refused n) (l .state) (l .rows) (l .log))
       ↔ First n (openOrder yard reading l)
   pub reading : (session : Session) (t : ℕ) (l : Lent) (n : ℕ)
       → (leaves l (answer (readingOrder session l t))
-      ≡ left (refused n) (l .state) (l .rows) (l .log))
+      ≡ made (refused n) (l .state) (l .rows) (l .log))
       ↔ First n (readingOrder session l t)
   pub deliver : (session : Session) (bytes : List ℕ) (l : Lent) (n : ℕ)
       → (leaves l (answer (deliverOrder session l bytes))
-      ≡ left (refused n) (l .state) (l .rows) (l .log))
+      ≡ made (refused n) (l .state) (l .rows) (l .log))
       ↔ First n (deliverOrder session l bytes)
   -- The same of a delivery by its record, and of 0 and 1.
   pub place : (session : Session) (bytes : List ℕ) (l : Lent) (r : Record)
       → sound session l ≡ true → answer (readOrder (session .yard .b) bytes) ≡ accepted r
-      → AtPlace session l r (answer (deliverOrder session l bytes))
+      → AtPlace r (foundIn session l r) (unchanged session l) (takeIn session l r)
+      (answer (deliverOrder session l bytes))
   pub replay : (yard : Yard) (steps : ℕ) (cells : List ℕ) (boxes state : List ℤ) (log : List ℕ)
       (n : ℕ)
       → (replay state (answer (replayOrder yard steps cells boxes state log))
@@ -148,19 +117,19 @@ pub record ExactlyWhen : Type 0 where
 -- Demand 2, of a session as in demand 3.
 pub record Demand2 (world : World) (h : Handed) : Type 0 where
   -- 'After n steps the state is the start state moved n times by that rule under the records held,
-  pub state : h .state ≡ moved world (h .result .clock .steps) (heldBy h)
+  pub state : h .state ≡ moved world (stepsMade h) (heldBy h)
   -- and replay from the log gives the same', whatever the state buffer held.
   pub replay : (state : List ℤ) → length state ≡ stateWords world
-      → answer (replayOrder (world .yard) (h .result .clock .steps)
+      → answer (replayOrder (world .yard) (stepsMade h)
       (world .cells) (world .boxes) state (take (8 * h .result .held) (h .log)))
       ≡ accepted (h .state)
   -- 'row t mod 64 holds the state before step t for the last 64 steps made';
-  pub rows : (t : ℕ) → t < h .result .clock .steps → h .result .clock .steps ≤ t + rowCount
+  pub rows : (t : ℕ) → t < stepsMade h → stepsMade h ≤ t + rowCount
       → rowOf (stateWords world) t (h .rows) ≡ moved world t (heldBy h)
   -- a row that no step has used is as opening filled it;
-  pub unused : (t : ℕ) → h .result .clock .steps ≤ t → t < rowCount
+  pub unused : (t : ℕ) → stepsMade h ≤ t → t < rowCount
       → rowOf (stateWords world) t (h .rows) ≡ replicate (stateWords world) (pos 0)
-  -- 'The saved rows are 64 states, 320·B words.'
+  -- 'The saved rows are 64 states, 320·B words'.
   pub long : length (h .rows) ≡ rowCount * stateWords world
   -- 'Held records stand in the log buffer strictly ascending by step, then carrier; at most 2,048;
   -- the bytes after them are zero.'
@@ -169,15 +138,15 @@ pub record Demand2 (world : World) (h : Handed) : Type 0 where
   pub few : h .result .held ≤ mostRecords
   -- The digest is that of the steps made and of the state moved n times.
   pub digest : answer (digestOrder (h .result) (lentIn world h))
-      ≡ accepted (digestOf (stateBytes (h .result .clock .steps)
-      (moved world (h .result .clock .steps) (heldBy h))))
+      ≡ accepted (digestOf (stateBytes (stepsMade h)
+      (moved world (stepsMade h) (heldBy h))))
   -- A carrier is shown between the state before the last step and the state; 'at n = 0, p is c'.
   pub shown : (i : ℕ) → i < world .yard .b
       → answer (shownOrder (h .result) (lentIn world h) i)
-      ≡ accepted (let n : ℕ = h .result .clock .steps in
+      ≡ accepted (let n : ℕ = stepsMade h in
       let p : Carrier = carrier i (moved world (n - 1) (heldBy h)) in
       let c : Carrier = carrier i (moved world n (heldBy h)) in
-      placeOf stepLength (p .x) (p .y) (c .x) (c .y) (h .result .clock .remainder))
+      shownPlace stepLength (p .x) (p .y) (c .x) (c .y) (h .result .clock .remainder))
   -- The session and its buffers are sound,
   pub sound : sound (h .result) (lentIn world h) ≡ true
   -- and no reading and no delivery is answered 14.
@@ -195,9 +164,9 @@ Time first calls h =
 -- These bytes are answered TAKEN.
 pub record Taken (world : World) (h : Handed) (bytes : List ℕ) : Type 0 where
   pub session : Session
-  pub answer : deliveryLeaves world h bytes .answer ≡ accepted (taken session)
+  pub answer : deliveryLeaves world h bytes .result ≡ accepted (taken session)
 
--- Two sessions show the same, and it is that of demand 2.
+-- Two sessions have equal 'state, saved rows, log bytes and digest .., and are those of demand 2'.
 pub record Same (world : World) (h k : Handed) : Type 0 where
   pub state : h .state ≡ k .state
   pub rows : h .rows ≡ k .rows
@@ -212,23 +181,24 @@ pub record Demand3 (world : World) : Type 0 where
   -- saved rows, log bytes and digest are equal, and are those of demand 2.'
   pub converge : (first other : ℕ) (calls others : List Call) (h k : Handed)
       → Reached world first calls h → Reached world other others k
-      → h .result .clock .steps ≡ k .result .clock .steps
+      → stepsMade h ≡ stepsMade k
       → ((r : Record) → List·Memᴰ r (heldBy h) ↔ List·Memᴰ r (heldBy k))
       → Same world h k
   -- 'A record once taken and sent again is answered HELD and changes nothing', whatever came
   -- between.
   pub again : (first : ℕ) (calls between : List Call) (h later : Handed) (bytes : List ℕ)
       → Reached world first calls h → Taken world h bytes
-      → run world h (delivery bytes ∷ between) ≡ later
+      → afterCalls world h (delivery bytes ∷ between) ≡ later
       → deliveryLeaves world later bytes
-      ≡ left (accepted (held (later .result))) (later .state) (later .rows) (later .log)
+      ≡ made (accepted (held (later .result))) (later .state) (later .rows) (later .log)
   -- 'Two records for different places, delivered one right after the other and both taken, are both
   -- taken in the other order', and end alike. (Both taken, their places do differ: `apart`.)
   pub swap : (first : ℕ) (calls : List Call) (h : Handed) (a b : List ℕ)
       → Reached world first calls h
       → Taken world h a → Taken world (next world h (delivery a)) b
       → Taken world h b × Taken world (next world h (delivery b)) a
-      × (run world h (delivery b ∷ delivery a ∷ []) ≡ run world h (delivery a ∷ delivery b ∷ []))
+      × (afterCalls world h (delivery b ∷ delivery a ∷ [])
+      ≡ afterCalls world h (delivery a ∷ delivery b ∷ []))
   pub apart : (first : ℕ) (calls : List Call) (h : Handed) (a b : List ℕ)
       → Reached world first calls h
       → Taken world h a → Taken world (next world h (delivery a)) b
@@ -241,11 +211,11 @@ pub record Demand3 (world : World) : Type 0 where
       → NoneRefused stepLength first (readingsOf others)
       → NoLongGap first (readingsOf calls) → NoLongGap first (readingsOf others)
       → lastOf first (readingsOf calls) ≡ lastOf first (readingsOf others)
-      → (h .result .clock .steps ≡ k .result .clock .steps)
+      → (stepsMade h ≡ stepsMade k)
       × (h .result .clock .remainder ≡ k .result .clock .remainder)
 
 -- The premises are met: the practice yard opens, with any first reading.
-pub record Met : Type 0 where
+pub record SomeWorldOpens : Type 0 where
   pub opens : (first : ℕ) → (h : Handed) × Opened practice first h
 
 -- 'Those with a letter are proved, as a single table under a single statement, of the definitions.'
@@ -286,6 +256,6 @@ pub record Demands : Type 0 where
   pub time : (world : World) (first : ℕ) (calls : List Call) (h : Handed)
       → Reached world first calls h → Time first calls h
   pub demand3 : (world : World) → Demand3 world
-  pub met : Met
+  pub met : SomeWorldOpens
   -- 'Examples to hold against it'
   pub lettered : Lettered

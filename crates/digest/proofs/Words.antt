@@ -16,7 +16,7 @@ use mir.Facts.{toZ-ofZ, toZ-pos}
 use Rattle.basis.specs.LittleEndian.{valueOf, Bytes}
 use Rattle.basis.proofs.LittleEndian.{read-back as value-back}
 use Rattle.digest.specs.Fnv.{fnv}
-use Rattle.digest.specs.Words.{twosComplement, wordBytes, bytesOf}
+use Rattle.digest.specs.Words.{twosComplement, wordBytes, bytesOfWords}
 use Rattle.digest.proofs.Fnv.{continued}
 
 -- Two's complement is the bits that the machine holds.
@@ -45,9 +45,9 @@ low-number word f = rw (low-bits word f) (toZ-pos w64 (omega (arith, bits-below 
 
 -- The word at an index, then the words after it.
 pub one-more : (value i : ℕ) (words : List ℤ) → i < length words
-    → fnv value (bytesOf (drop i words))
-    ≡ fnv (fnv value (wordBytes (getD words i (pos 0)))) (bytesOf (drop (i + 1) words))
-unfolding bytesOf
+    → fnv value (bytesOfWords (drop i words))
+    ≡ fnv (fnv value (wordBytes (getD words i (pos 0)))) (bytesOfWords (drop (i + 1) words))
+unfolding bytesOfWords
 one-more value i words h = rw (add-one, drop-cons words i (pos 0)) (continued value _ _)
 
 -- Every i32 is read back from its bytes.
@@ -56,14 +56,14 @@ read-back word f =
     rw (value-back 4 (twosComplement word) (bits-below word f), ← machine-bits) (toZ-ofZ f)
 
 -- Words have four bytes each,
-pub four-each : (words : List ℤ) → length (bytesOf words) ≡ 4 * length words
-unfolding bytesOf
+pub four-each : (words : List ℤ) → length (bytesOfWords words) ≡ 4 * length words
+unfolding bytesOfWords
 four-each [] = refl
 four-each (word ∷ words) = omega (arith, four-each words)
 
 -- every one of them below 256.
-pub all-bytes : (words : List ℤ) → Bytes (bytesOf words)
-unfolding bytesOf
+pub all-bytes : (words : List ℤ) → Bytes (bytesOfWords words)
+unfolding bytesOfWords
 all-bytes [] i = lit< tt
 all-bytes (word ∷ rest) zero = omega arith
 all-bytes (word ∷ rest) (suc zero) = omega arith

@@ -10,9 +10,9 @@ use mir.Val.{SFits, toZ}
 use Rattle.basis.specs.LittleEndian.{valueOf, Bytes}
 use Rattle.digest.specs.declared.Digest.{Digest}
 use Rattle.digest.specs.Fnv.{fnv, digestOf}
-use Rattle.digest.specs.Words.{wordBytes, bytesOf}
+use Rattle.digest.specs.Words.{wordBytes, bytesOfWords}
 
--- 'The digest is FNV-1a, 32 bits.'
+-- 'The digest is FNV-1a, 32 bits'.
 pub record Fnv1a : Type 0 where
   -- 'exclusive-or into the low byte': what stands above the low byte is left as it was.
   pub lowByte : (value byte : ℕ) → byte < 256
@@ -26,9 +26,9 @@ pub record Fnv1a : Type 0 where
 -- 'each state word (i32, two's complement), all little-endian'
 pub record WordBytes : Type 0 where
   -- Words are four bytes each.
-  pub four : (words : List ℤ) → length (bytesOf words) ≡ 4 * length words
+  pub four : (words : List ℤ) → length (bytesOfWords words) ≡ 4 * length words
   -- What they are is bytes, each below 256.
-  pub bytes : (words : List ℤ) → Bytes (bytesOf words)
+  pub bytes : (words : List ℤ) → Bytes (bytesOfWords words)
   -- Every i32 is read back from its bytes, as the machine reads 32 bits with a sign.
   pub readBack : (word : ℤ) → SFits w32 word → toZ w32 (valueOf (wordBytes word)) ≡ word
   -- The bytes of -1 are 255, four times.

@@ -14,10 +14,10 @@ abbrev pub wordBytes : ℤ → List ℕ
 wordBytes word = littleEndian 4 (twosComplement word)
 
 -- 'each state word (i32, two's complement)', one after the other.
-unfoldable pub bytesOf : List ℤ → List ℕ
-bytesOf [] = []
-bytesOf (word ∷ rest) = wordBytes word ++ bytesOf rest
+unfoldable pub bytesOfWords : List ℤ → List ℕ
+bytesOfWords [] = []
+bytesOfWords (word ∷ rest) = wordBytes word ++ bytesOfWords rest
 
 -- 'steps made (u32), then each state word (i32, two's complement), all little-endian'
 abbrev pub stateBytes : ℕ → List ℤ → List ℕ
-stateBytes steps state = littleEndian 4 steps ++ bytesOf state
+stateBytes steps state = littleEndian 4 steps ++ bytesOfWords state

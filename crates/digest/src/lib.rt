@@ -3,7 +3,7 @@
 ghost use mathlib.Core.Path.{_≡_};
 ghost use Rattle.basis.specs.LittleEndian.{littleEndian};
 ghost use Rattle.digest.specs.Fnv.{START, withByte, fnv, digestOf};
-ghost use Rattle.digest.specs.Words.{twosComplement, bytesOf, stateBytes};
+ghost use Rattle.digest.specs.Words.{twosComplement, bytesOfWords, stateBytes};
 
 pub struct Digest {
     pub value: u32,
@@ -57,7 +57,8 @@ impl Digest {
 
     // Continued over i32 words, two's complement, little-endian.
     pub fn words(self, words: &[i32]) -> Self
-        ensures continued { λ r. ⌜ r .value ≡ fnv (self .value) (bytesOf (now (words .entry))) ⌝ }
+        ensures continued { λ r. ⌜
+            r .value ≡ fnv (self .value) (bytesOfWords (now (words .entry))) ⌝ }
     {
         let mut digest = self;
         let mut i = 0;

@@ -18,7 +18,7 @@ use Rattle.yard.specs.declared.carrier.Carrier.{Carrier}
 use Rattle.yard.specs.declared.carrier.Held.{Held}
 use Rattle.yard.specs.World.{sizeOf}
 use Rattle.yard.specs.Free.{free}
-use Rattle.yard.specs.Step.{LeverFits, step, sound}
+use Rattle.yard.specs.Step.{LeverFits, step, soundCarrier}
 use Rattle.yard.proofs.Every.{all-pass, passes}
 use Rattle.yard.proofs.Soundness.{good-of, of-good, step-sound}
 use Rattle.fleet.specs.State.{World, carrier, wordsOf, put, freeFor, soundState}
@@ -52,11 +52,10 @@ module _ (i : ℕ) (c : Carrier) (state : List ℤ) (room : 5 * i + 5 ≤ length
           paste-after state (5 * i) (wordsOf c) 5 (pos 0) room (omega arith) (5 * k + j)
           (omega arith))
 
-pub free-in-yard : (world : World) (i : ℕ) (state : List ℤ) (x y : ℤ)
-    → freeFor world i state x y ≡ true
-    → free (world .yard) (world .cells) (sizeOf (world .boxes) i) x y ≡ true
+pub free-as-yard : (world : World) (i : ℕ) (state : List ℤ) (x y : ℤ)
+    → freeFor world i state x y ≡ free (world .yard) (world .cells) (sizeOf (world .boxes) i) x y
 unfolding freeFor
-free-in-yard world i state x y h = h
+free-as-yard world i state x y = refl
 
 -- Where carrier i is free its own words play no part; put at a place that is free for it, it leaves
 -- every carrier free.
@@ -79,8 +78,8 @@ module _ (world : World) (i : ℕ) (c : Carrier) (state : List ℤ)
       go false e = rw (carrier-other i c state room k (eqb-false i k e)) (each k l)
 
 -- A sound carrier is sound wherever its place is free.
-same-rule : (free other : ℤ → ℤ → Bool) (c : Carrier) → sound free c ≡ true
-    → other (c .x) (c .y) ≡ true → sound other c ≡ true
+same-rule : (free other : ℤ → ℤ → Bool) (c : Carrier) → soundCarrier free c ≡ true
+    → other (c .x) (c .y) ≡ true → soundCarrier other c ≡ true
 same-rule free other c e here =
     let g = good-of free c e in
     of-good other c (record { here = here; u = g .u; v = g .v; lever = g .lever })
@@ -101,7 +100,7 @@ module _ (world : World) (held : Held) (i : ℕ) (state : List ℤ) (h : i < wor
   moved = step (freeFor world i state) held (carrier i state)
 
   -- The carrier that is put in is sound where it stands.
-  stepped : sound (freeFor world i state) moved ≡ true
+  stepped : soundCarrier (freeFor world i state) moved ≡ true
   unfolding soundState moved
   stepped =
       step-sound (freeFor world i state) held (carrier i state) fits (passes _ _ (s .sound) i h)
@@ -112,12 +111,13 @@ module _ (world : World) (held : Held) (i : ℕ) (state : List ℤ) (h : i < wor
       (good-of _ _ stepped .here)
 
   each : (k : ℕ) → k < world .yard .b
-      → sound (freeFor world k (put i moved state)) (carrier k (put i moved state)) ≡ true
+      → soundCarrier (freeFor world k (put i moved state)) (carrier k (put i moved state)) ≡ true
   unfolding soundState
   each k l = go (eqb i k) refl
     where
       go : (t : Bool) → eqb i k ≡ t
-          → sound (freeFor world k (put i moved state)) (carrier k (put i moved state)) ≡ true
+          → soundCarrier (freeFor world k (put i moved state)) (carrier k (put i moved state))
+          ≡ true
       go true e =
           same-rule (freeFor world i state) _ _
           (rw (← eqb-true i k e, carrier-put i moved state room) stepped) (all-free k l)

@@ -4,24 +4,17 @@ use native.Mathlib.Omega.{arith}
 use Rattle.basis.specs.Order.{answer}
 use Rattle.record.specs.Bytes.{recordOf, wellFormed, limitsOrder, readOrder}
 use Rattle.record.specs.Log.{precedes}
-use Rattle.record.specs.Held.{leverAt}
 use Rattle.yard.specs.Ranges.{between, every}
 use Rattle.yard.specs.World.{sizeOf}
 use Rattle.yard.specs.Free.{wall, share, covers, noWall, free}
 use Rattle.yard.specs.Rule9.{sizeHolds, sizesHold}
-use Rattle.yard.specs.Levers.{pushOf, cut, brake, newSpeed}
-use Rattle.yard.specs.Slide.{toward, clearOn, walk, distance, slide}
-use Rattle.yard.specs.Step.{step, sound}
-use Rattle.fleet.specs.State.{carrier, wordsOf, put, freeFor, soundState, startTo}
-use Rattle.fleet.specs.Step.{stepOne, stepTo, stepAll}
-use Rattle.fleet.specs.Run.{run}
+use Rattle.yard.specs.Step.{soundCarrier}
+use Rattle.fleet.specs.State.{carrier, wordsOf, freeFor, soundState, startTo}
 use Rattle.fleet.specs.Examples.{Practice}
 
 pub examples : Practice
-unfolding answer recordOf wellFormed limitsOrder readOrder precedes leverAt between every sizeOf
-    wall share covers noWall free sizeHolds sizesHold pushOf cut brake newSpeed toward clearOn
-    walk distance slide step sound carrier wordsOf put freeFor soundState startTo stepOne stepTo
-    stepAll run
+unfolding answer recordOf wellFormed limitsOrder readOrder precedes between every sizeOf wall share
+    covers noWall free sizeHolds sizesHold soundCarrier carrier wordsOf freeFor soundState startTo
 examples =
     record {
       world =
@@ -33,6 +26,4 @@ examples =
       log =
           record { few = omega arith; room = omega arith; unrefused = refl; ascends = refl };
       start = record { room = refl; sound = refl };
-      empty = refl;
-      three = refl;
     }

@@ -2,7 +2,6 @@
 --   Words       the words of a carrier, in and out of a state
 --   Carriers    one carrier of a state: put in, free, and the state rule kept
 --   Starts      the start is sound, a sound log fits
---   Soundness   the state rule read both ways
 --   Steps       one step of all: each carrier is moved once
 --   Joined      runs joined, sound, and moved by no record of another step
 --   Rows        where a row stands, what saving one leaves, what a run leaves
@@ -12,7 +11,6 @@
 pub mod Words
 pub mod Carriers
 pub mod Starts
-pub mod Soundness
 pub mod Steps
 pub mod Joined
 pub mod Rows

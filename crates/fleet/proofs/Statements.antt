@@ -1,13 +1,14 @@
 -- The statements of specs/Statements.antt, proved.
 use mathlib.Core.Path.{sym, _∙_}
 use Rattle.record.proofs.Logs.{all-within}
+use Rattle.yard.proofs.Every.{passes, all-pass}
+use Rattle.fleet.specs.State.{soundState}
 use Rattle.fleet.specs.Statements.{Words, FreeFor, Start, StateRule, OneStep, Runs, SavedRows}
 use Rattle.fleet.specs.Statements.{Determined, GoingBack}
 use Rattle.fleet.proofs.Words.{only-carriers, length-put, length-start}
 use Rattle.fleet.proofs.Carriers.{carrier-put, carrier-other, all-keeps, step-keeps}
-use Rattle.fleet.proofs.Carriers.{free-in-yard, free-own, free-stays}
+use Rattle.fleet.proofs.Carriers.{free-as-yard, free-own, free-stays}
 use Rattle.fleet.proofs.Starts.{carrier-start, start-sound}
-use Rattle.fleet.proofs.Soundness.{sound-each, each-sound}
 use Rattle.fleet.proofs.Steps.{each-moved, same-all}
 use Rattle.fleet.proofs.Joined.{joined, joined-saving, saving-state, run-keeps}
 use Rattle.fleet.proofs.Joined.{same-run, same-saving}
@@ -29,7 +30,7 @@ words =
 pub freeFor : FreeFor
 freeFor =
     record {
-      inYard = free-in-yard;
+      inYard = free-as-yard;
       own = λ world i c state x y room. free-own world i c state room x y;
       others = free-stays;
     }
@@ -43,7 +44,8 @@ start =
     }
 
 pub stateRule : StateRule
-stateRule = record { reading = λ world state. (sound-each world state, each-sound world state) }
+unfolding soundState
+stateRule = record { means = λ world state. (passes _ _, all-pass _ _) }
 
 pub oneStep : OneStep
 oneStep =

@@ -5,14 +5,13 @@ use mathlib.Core.List.{List}
 use mathlib.Core.Bool.{true}
 use lib.IntN.{ℤ}
 use lib.ListN.{length}
-use Rattle.basis.specs.Numbers.{mostRecords}
+use Rattle.basis.specs.Numbers.{mostRecords, rowCount}
 use Rattle.record.specs.Log.{ascending, records, noneRefused}
 use Rattle.yard.specs.World.{CellsFit, BoxesFit}
 use Rattle.yard.specs.Rule9.{sizesHold}
 use Rattle.fleet.specs.State.{World, stateWords, soundState}
-use Rattle.fleet.specs.Run.{rowCount}
 
--- W, H, B and lengths as at opening, and every size in range.
+-- W, H and B not above their ranges, lengths as at opening, and every size in range.
 pub record WorldFits (world : World) : Type 0 where
   pub laid : CellsFit (world .yard) (world .cells)
   pub room : BoxesFit (world .yard) (world .boxes)

@@ -10,7 +10,7 @@ use Rattle.yard.specs.declared.carrier.Carrier.{Carrier}
 use Rattle.yard.specs.Ranges.{every}
 use Rattle.yard.specs.World.{word, sizeOf}
 use Rattle.yard.specs.Free.{free}
-use Rattle.yard.specs.Step.{atRest, sound}
+use Rattle.yard.specs.Step.{atRest, soundCarrier}
 
 -- 'A world is W, H, the cell bytes, and for each carrier x, y, w, h'.
 pub record World : Type 0 where
@@ -18,6 +18,7 @@ pub record World : Type 0 where
   pub cells : List ℕ
   pub boxes : List ℤ
 
+-- The three, as one.
 abbrev pub worldOf : Yard → List ℕ → List ℤ → World
 worldOf yard cells boxes = record { yard = yard; cells = cells; boxes = boxes }
 
@@ -48,14 +49,14 @@ wordsOf c = c .x ∷ c .y ∷ c .u ∷ c .v ∷ c .lever ∷ []
 unfoldable pub put : ℕ → Carrier → List ℤ → List ℤ
 put i c state = paste state (carrierWords * i) (wordsOf c) carrierWords
 
--- Where carrier i is free in a state.
+-- Where carrier i is free. The state plays no part: carriers don't touch each other.
 unfoldable pub freeFor : World → ℕ → List ℤ → ℤ → ℤ → Bool
 freeFor world i state = free (world .yard) (world .cells) (sizeOf (world .boxes) i)
 
 -- 'each carrier of the current state free, speeds within 200 either way, lever 0 to 9'.
 unfoldable pub soundState : World → List ℤ → Bool
 soundState world state =
-    every (world .yard .b) (λ i. sound (freeFor world i state) (carrier i state))
+    every (world .yard .b) (λ i. soundCarrier (freeFor world i state) (carrier i state))
 
 -- 'for each carrier x, y, ..', 'At the start u, v and lever are 0': the start of the carriers below
 -- i.

@@ -5,8 +5,9 @@ use mathlib.Core.Logic.{_↔_, _≢_}
 use mathlib.Core.Bool.{true}
 use mathlib.Core.List.{List}
 use mathlib.Core.Option.{Option}
-use lib.IntN.{ℤ, pos, natAbs}
+use lib.IntN.{ℤ, pos}
 use lib.ListN.{length, replicate}
+use Rattle.basis.specs.Numbers.{rowCount}
 use Rattle.record.specs.declared.bytes.Record.{Record}
 use Rattle.record.specs.Log.{records}
 use Rattle.record.specs.Held.{leverAt}
@@ -14,11 +15,11 @@ use Rattle.yard.specs.declared.carrier.Carrier.{Carrier}
 use Rattle.yard.specs.World.{word, sizeOf}
 use Rattle.yard.specs.Free.{free}
 use Rattle.yard.specs.Rule9.{startsHold}
-use Rattle.yard.specs.Step.{LeverFits, atRest, step}
+use Rattle.yard.specs.Step.{LeverFits, atRest, step, soundCarrier}
 use Rattle.fleet.specs.State.{World, carrierWords, stateWords, carrier, put, freeFor}
 use Rattle.fleet.specs.State.{soundState, startState}
 use Rattle.fleet.specs.Step.{heldOf, stepTo, stepAll, stepAt}
-use Rattle.fleet.specs.Run.{Course, courseOf, run, runSaving, rowCount, rowOf}
+use Rattle.fleet.specs.Run.{Course, run, runSaving, rowOf, goBack}
 use Rattle.fleet.specs.Fits.{LogFits, StateFits, RowsFit}
 
 -- 'any two outcomes allowed by it coincide', for the contract of the one public entry.
@@ -55,10 +56,9 @@ EachFree world state =
 
 -- 'It is *free* there if ..', of carrier i in a state.
 pub record FreeFor : Type 0 where
-  -- A place that is free for it is free in the yard, with its size.
+  -- Exactly where it is free in the yard, with its size: no other carrier plays a part.
   pub inYard : (world : World) (i : ℕ) (state : List ℤ) (x y : ℤ)
-      → freeFor world i state x y ≡ true
-      → free (world .yard) (world .cells) (sizeOf (world .boxes) i) x y ≡ true
+      → freeFor world i state x y ≡ free (world .yard) (world .cells) (sizeOf (world .boxes) i) x y
   -- Its own words play no part.
   pub own : (world : World) (i : ℕ) (c : Carrier) (state : List ℤ) (x y : ℤ)
       → carrierWords * i + carrierWords ≤ length state
@@ -80,27 +80,17 @@ pub record Start : Type 0 where
   pub sound : (world : World) → startsHold (world .yard) (world .cells) (world .boxes) ≡ true
       → soundState world (startState world) ≡ true
 
--- The state rule, of carrier i of a state.
-pub record SoundCarrier (world : World) (state : List ℤ) (i : ℕ) : Type 0 where
-  -- 'free'
-  pub here : freeFor world i state (carrier i state .x) (carrier i state .y) ≡ true
-  -- 'speeds within 200 either way'
-  pub u : natAbs (carrier i state .u) ≤ 200
-  pub v : natAbs (carrier i state .v) ≤ 200
-  -- 'lever 0 to 9'
-  pub lever : (position : ℕ) × (position ≤ 9) × (carrier i state .lever ≡ pos position)
-
 -- 'each carrier of the current state free, speeds within 200 either way, lever 0 to 9'
 pub record StateRule : Type 0 where
-  -- A state passes if and only if each of its carriers does.
-  pub reading : (world : World) (state : List ℤ)
+  -- A state passes if and only if each of its carriers does; `Step.rule` of `yard` reads one.
+  pub means : (world : World) (state : List ℤ)
       → (soundState world state ≡ true)
-      ↔ ((i : ℕ) → i < world .yard .b → SoundCarrier world state i)
+      ↔ ((i : ℕ) → i < world .yard .b
+      → soundCarrier (freeFor world i state) (carrier i state) ≡ true)
 
 -- 'One step' of all carriers.
 pub record OneStep : Type 0 where
-  -- 'For each carrier': it is moved once, from its words before the step; what is free for it is
-  -- what the carriers before it have left.
+  -- 'For each carrier', by number: it is moved once, from its words before the step.
   pub each : (world : World) (levers : ℕ → Option ℕ) (state : List ℤ)
       → length state ≡ stateWords world → (i : ℕ) → i < world .yard .b
       → carrier i (stepAll world levers state)
@@ -170,12 +160,6 @@ pub record SavedRows : Type 0 where
       → (s : ℕ) → s < t → t + k ≤ s + rowCount
       → rowOf (stateWords world) s (runSaving world list t k course .rows)
       ≡ rowOf (stateWords world) s (course .rows)
-
--- 'the state before step t is brought back, and steps t to n-1 are made again', for step s of n.
-abbrev pub goBack : World → List Record → ℕ → ℕ → Course → Course
-goBack world list s n course =
-    runSaving world list s (n - s)
-    (courseOf (rowOf (stateWords world) s (course .rows)) (course .rows))
 
 -- 'Going back' to step s, one of the last 64 of k steps from step t on, under other records that
 -- hold the same levers below step s.

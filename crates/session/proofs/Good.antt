@@ -9,11 +9,11 @@ use Rattle.basis.specs.Numbers.{stepLength}
 use Rattle.basis.specs.LittleEndian.{Bytes}
 use Rattle.basis.proofs.Tests.{and-left, and-right, not-right}
 use Rattle.record.specs.Log.{records}
-use Rattle.record.specs.Held.{soundBuffer, Holds}
+use Rattle.record.specs.Held.{soundBuffer, HoldsRecords}
 use Rattle.record.proofs.Climbs.{Climbs, ascends}
 use Rattle.record.proofs.Logs.{AllWithin}
 use Rattle.record.proofs.Buffers.{Kept, kept, held-unrefused, held-within, held-climbs, holds}
-use Rattle.clock.specs.Clock.{isSound}
+use Rattle.clock.specs.Clock.{soundClock}
 use Rattle.yard.specs.Rule9.{rangesHold, cellsHold, sizesHold}
 use Rattle.yard.proofs.Fits.{cells-fit, boxes-fit}
 use Rattle.fleet.specs.State.{soundState}
@@ -29,7 +29,7 @@ pub record Good (session : Session) (l : Lent) : Type 0 where
   pub room : Room (session .yard) l
   pub cells : cellsHold (l .cells) ≡ true
   pub sizes : sizesHold (session .yard) (l .boxes) ≡ true
-  pub clock : isSound stepLength (session .clock) ≡ true
+  pub clock : soundClock stepLength (session .clock) ≡ true
   pub buffer : Kept (session .yard .b) (session .held) (l .log)
   pub state : soundState (worldIn session l) (l .state) ≡ true
 
@@ -41,7 +41,7 @@ module _ (session : Session) (l : Lent) where
       let b = room (session .yard) l in
       let c = cellsHold (l .cells) in
       let d = sizesHold (session .yard) (l .boxes) in
-      let f = isSound stepLength (session .clock) in
+      let f = soundClock stepLength (session .clock) in
       let g = soundBuffer (session .yard .b) (session .held) (l .log) in
       let h = soundState (worldIn session l) (l .state) in
       let six = and-left (a && b && c && d && f && g) h e in
@@ -87,15 +87,15 @@ module _ (session : Session) (l : Lent) where
       && cellsHold (l .cells)
       && sizesHold (session .yard) (l .boxes)
 
-  pub bad-clock : isSound stepLength (session .clock) ≡ false → sound session l ≡ false
+  pub bad-clock : soundClock stepLength (session .clock) ≡ false → sound session l ≡ false
   unfolding sound
-  bad-clock e = rw (not-right world (isSound stepLength (session .clock)) e)
+  bad-clock e = rw (not-right world (soundClock stepLength (session .clock)) e)
 
   pub bad-buffer : soundBuffer (session .yard .b) (session .held) (l .log) ≡ false
       → sound session l ≡ false
   unfolding sound
   bad-buffer e =
-      rw (not-right (world && isSound stepLength (session .clock))
+      rw (not-right (world && soundClock stepLength (session .clock))
       (soundBuffer (session .yard .b) (session .held) (l .log)) e)
 
   module _ (g : Good session l) where

@@ -12,7 +12,7 @@ use Rattle.clock.specs.Reading.{Given, readingOrder as clockOrder}
 use Rattle.clock.proofs.Readings.{exactly-given}
 use Rattle.fleet.specs.Run.{Course, courseOf, runSaving}
 use Rattle.session.specs.declared.Session.{Session}
-use Rattle.session.specs.Lent.{Lent, worldIn, heldIn, left, leaves}
+use Rattle.session.specs.Lent.{Lent, worldIn, heldIn, made, leaves}
 use Rattle.session.specs.Sound.{sound}
 use Rattle.session.specs.Calls.{courseIn, withClock, readOn, readingOrder}
 
@@ -40,11 +40,11 @@ pub read-left : (session : Session) (l : Lent) (given : Given) (state rows : Lis
     → k ≡ given .due
     → courseOf state rows
     ≡ runSaving (worldIn session l) (heldIn session l) (session .clock .steps) k (courseIn l)
-    → left (accepted (withClock session (given .clock))) state rows (l .log)
+    → made (accepted (withClock session (given .clock))) state rows (l .log)
     ≡ leaves l (accepted (readOn session l given))
 unfolding readOn
 read-left session l given state rows k due e =
     ap
-    (λ (course : Course). left (accepted (withClock session (given .clock))) (course .state)
+    (λ (course : Course). made (accepted (withClock session (given .clock))) (course .state)
     (course .rows) (l .log))
     (e ∙ rw due)

@@ -16,7 +16,7 @@ use Rattle.basis.proofs.Order.{passes, fails, gives}
 use Rattle.clock.proofs.Sound.{sound-says}
 use Rattle.digest.specs.Fnv.{digestOf}
 use Rattle.digest.specs.Words.{stateBytes}
-use Rattle.shown.specs.Answer.{placeOf}
+use Rattle.shown.specs.Answer.{shownPlace}
 use Rattle.shown.specs.declared.Place.{Place}
 use Rattle.yard.specs.declared.carrier.Carrier.{Carrier}
 use Rattle.fleet.specs.State.{carrier, soundState}
@@ -67,7 +67,7 @@ module _ (session : Session) (l : Lent) where
         -- 'at n = 0, p is c'
         pub first-shown : session .clock .steps ≡ 0 → (c : Carrier) (place : Place)
             → c ≡ carrier i (l .state)
-            → place ≡ placeOf stepLength (c .x) (c .y) (c .x) (c .y) (session .clock .remainder)
+            → place ≡ shownPlace stepLength (c .x) (c .y) (c .x) (c .y) (session .clock .remainder)
             → accepted place ≡ answer (shownOrder session l i)
         unfolding shownOrder shownOf
         first-shown z c place is e =
@@ -97,7 +97,8 @@ module _ (session : Session) (l : Lent) where
               → (p c : Carrier) (place : Place)
               → p ≡ carrier i lastRow
               → c ≡ carrier i (l .state)
-              → place ≡ placeOf stepLength (p .x) (p .y) (c .x) (c .y) (session .clock .remainder)
+              → place
+              ≡ shownPlace stepLength (p .x) (p .y) (c .x) (c .y) (session .clock .remainder)
               → accepted place ≡ answer (shownOrder session l i)
           unfolding shownOrder shownOf
           row-shown row p c place was is e =

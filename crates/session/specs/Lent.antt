@@ -16,6 +16,7 @@ pub record Lent : Type 0 where
   pub rows : List ℤ
   pub log : List ℕ
 
+-- They, as one.
 abbrev pub lent : List ℕ → List ℤ → List ℤ → List ℤ → List ℕ → Lent
 lent cells boxes state rows log =
     record { cells = cells; boxes = boxes; state = state; rows = rows; log = log }
@@ -28,24 +29,18 @@ worldIn session l = worldOf (session .yard) (l .cells) (l .boxes)
 abbrev pub heldIn : Session → Lent → List Record
 heldIn session l = records (session .held) (l .log)
 
--- What a call answers, and what it leaves in the buffers that it may change.
-pub record Left (A : Type 0) : Type 0 where
-  pub answer : Answer A
-  pub state : List ℤ
-  pub rows : List ℤ
-  pub log : List ℕ
-
-abbrev pub left : {A : Type 0} → Answer A → List ℤ → List ℤ → List ℕ → Left A
-left answer state rows log = record { answer = answer; state = state; rows = rows; log = log }
-
--- What an accepted call makes: its result, and the buffers.
+-- What a call gives, and what it leaves in the buffers that it may change.
 pub record Made (A : Type 0) : Type 0 where
   pub result : A
   pub state : List ℤ
   pub rows : List ℤ
   pub log : List ℕ
 
+-- The same, as one.
+abbrev pub made : {A : Type 0} → A → List ℤ → List ℤ → List ℕ → Made A
+made result state rows log = record { result = result; state = state; rows = rows; log = log }
+
 -- 'a refusal changes no session and no buffer'; an accepted call leaves what it makes.
-abbrev pub leaves : {A : Type 0} → Lent → Answer (Made A) → Left A
-leaves l (refused number) = left (refused number) (l .state) (l .rows) (l .log)
-leaves l (accepted m) = left (accepted (m .result)) (m .state) (m .rows) (m .log)
+abbrev pub leaves : {A : Type 0} → Lent → Answer (Made A) → Made (Answer A)
+leaves l (refused number) = made (refused number) (l .state) (l .rows) (l .log)
+leaves l (accepted m) = made (accepted (m .result)) (m .state) (m .rows) (m .log)

@@ -5,11 +5,10 @@ use lib.Dec.{eqb}
 use lib.ListN.{length}
 use Rattle.basis.specs.Numbers.{stepLength}
 use Rattle.record.specs.Held.{bufferSize, soundBuffer}
-use Rattle.clock.specs.Clock.{isSound}
+use Rattle.clock.specs.Clock.{soundClock}
 use Rattle.yard.specs.declared.world.Yard.{Yard}
 use Rattle.yard.specs.Rule9.{rangesHold, cellsHold, sizesHold}
 use Rattle.fleet.specs.State.{World, stateWords, soundState}
-use Rattle.fleet.specs.Run.{rowCount}
 use Rattle.session.specs.declared.Session.{Session}
 use Rattle.session.specs.Lent.{Lent, worldIn}
 
@@ -37,6 +36,6 @@ sound session l =
     && room (session .yard) l
     && cellsHold (l .cells)
     && sizesHold (session .yard) (l .boxes)
-    && isSound stepLength (session .clock)
+    && soundClock stepLength (session .clock)
     && soundBuffer (session .yard .b) (session .held) (l .log)
     && soundState (worldIn session l) (l .state)

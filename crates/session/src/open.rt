@@ -4,7 +4,7 @@ ghost use mathlib.Core.Path.{_≡_};
 ghost use Rattle.basis.specs.Order.{answer};
 ghost use Rattle.session.specs.Answers.{runningOf};
 ghost use Rattle.session.specs.Calls.{openOrder};
-ghost use Rattle.session.specs.Lent.{Lent, leaves, left, lent};
+ghost use Rattle.session.specs.Lent.{Lent, leaves, made, lent};
 use super::Running;
 use super::Session;
 use super::worlds::Checked;
@@ -31,7 +31,7 @@ impl Session {
             (let l : Lent =
             lent (now (cells .entry)) (now (boxes .entry)) (now (state .entry))
             (now (rows .entry)) (now (log .entry)) in
-            left (runningOf r) (now (state .exit)) (now (rows .exit)) (now (log .exit))
+            made (runningOf r) (now (state .exit)) (now (rows .exit)) (now (log .exit))
             ≡ leaves l (answer (openOrder yard reading l))) ⌝ }
     {
         let lengths = has_room(yard, cells, boxes, state, rows, log);

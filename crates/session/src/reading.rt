@@ -2,7 +2,7 @@
 
 ghost use mathlib.Core.Path.{_≡_};
 ghost use Rattle.basis.specs.Order.{answer};
-ghost use Rattle.session.specs.Lent.{Lent, leaves, left, lent};
+ghost use Rattle.session.specs.Lent.{Lent, leaves, made, lent};
 ghost use Rattle.session.specs.Calls.{readingOrder};
 ghost use Rattle.session.specs.Answers.{runningOf};
 use super::Running;
@@ -27,7 +27,7 @@ impl Session {
             (let l : Lent =
             lent (now (cells .entry)) (now (boxes .entry)) (now (state .entry))
             (now (rows .entry)) (now (log .entry)) in
-            left (runningOf r) (now (state .exit)) (now (rows .exit)) (now (log .entry))
+            made (runningOf r) (now (state .exit)) (now (rows .exit)) (now (log .entry))
             ≡ leaves l (answer (readingOrder self l reading))) ⌝ }
     {
         let yard = self.yard;

@@ -3,7 +3,7 @@
 ghost use mathlib.Core.Path.{_≡_};
 ghost use Rattle.basis.specs.Numbers.{stepLength};
 ghost use Rattle.basis.specs.Order.{answer};
-ghost use Rattle.shown.specs.Answer.{answerOf, placeOf};
+ghost use Rattle.shown.specs.Answer.{answerOf, shownPlace};
 ghost use Rattle.session.specs.Lent.{lent};
 ghost use Rattle.session.specs.Calls.{digestOrder, shownOrder};
 ghost use Rattle.session.specs.Answers.{digestedOf};
@@ -44,7 +44,9 @@ pub fn digest(
 // The place between a carrier's previous and its present place.
 fn between(previous: Carrier, present: Carrier, remainder: u32) -> Place
     ensures placed { λ r. ⌜
-        r ≡ placeOf stepLength (previous .x) (previous .y) (present .x) (present .y) remainder ⌝ }
+        r
+        ≡ shownPlace stepLength (previous .x) (previous .y) (present .x) (present .y)
+        remainder ⌝ }
 {
     Place::shown(previous.x, previous.y, present.x, present.y, remainder)
 }

@@ -8,8 +8,8 @@ use Rattle.shown.specs.declared.Shown.{Shown}
 use Rattle.shown.specs.declared.Shown.the-variants.{At, Refused}
 
 -- 'The shown place of a carrier is a pair of f64': previously at (px, py), now at (cx, cy).
-unfoldable pub placeOf : ℕ → ℤ → ℤ → ℤ → ℤ → ℕ → Place
-placeOf length px py cx cy remainder =
+unfoldable pub shownPlace : ℕ → ℤ → ℤ → ℤ → ℤ → ℕ → Place
+shownPlace length px py cx cy remainder =
     record { x = blendOf length px cx remainder; y = blendOf length py cy remainder }
 
 -- The place or the number that each case of the answer stands for.

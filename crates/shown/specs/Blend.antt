@@ -9,12 +9,12 @@ use lib.Ieee.{Float, binary64, ofInt, add, sub, mul, div, le}
 abbrev pub whole : ℤ → Float
 whole z = ofInt binary64 z
 
--- alpha, at a step of any length.
+-- 'alpha is remainder divided by 20000.0', here by the length of any step.
 abbrev pub alphaOf : ℕ → ℕ → Float
 alphaOf length remainder = div binary64 (whole (pos remainder)) (whole (pos length))
 
 -- 'Each coordinate is p + (c - p)·alpha, rounded after each operation in that order, where c is the
--- present and p the previous whole-number coordinate.'
+-- present and p the previous whole-number coordinate'.
 unfoldable pub blendOf : ℕ → ℤ → ℤ → ℕ → Float
 blendOf length p c remainder =
     add binary64 (whole p)
@@ -24,6 +24,6 @@ blendOf length p c remainder =
 abbrev pub isWithin : ℤ → ℤ → Float → Bool
 isWithin a b x = le (whole a) x && le x (whole b)
 
--- 'It lies between p and c, ends allowed.'
+-- 'It lies between p and c, ends allowed'.
 abbrev pub isBetween : ℤ → ℤ → Float → Bool
 isBetween p c x = isWithin p c x || isWithin c p x

@@ -9,7 +9,7 @@ use mir.Syntax.{w32}
 use mir.Val.{Fits, SFits}
 use Rattle.basis.specs.Numbers.{stepLength}
 use Rattle.shown.specs.Blend.{whole, blendOf, isBetween}
-use Rattle.shown.specs.Answer.{placeOf, answerOf}
+use Rattle.shown.specs.Answer.{shownPlace, answerOf}
 use Rattle.shown.specs.declared.Place.{Place}
 use Rattle.shown.specs.declared.Shown.{Shown}
 
@@ -22,8 +22,8 @@ pub record Determined : Type 0 where
       → a ≡ b
   -- `Place::shown`
   pub shown : (px py cx cy : ℤ) (remainder : ℕ) {a b : Place}
-      → a ≡ placeOf stepLength px py cx cy remainder
-      → b ≡ placeOf stepLength px py cx cy remainder
+      → a ≡ shownPlace stepLength px py cx cy remainder
+      → b ≡ shownPlace stepLength px py cx cy remainder
       → a ≡ b
   -- No two answers stand for the same place or number.
   pub answer : (a b : Shown) → answerOf a ≡ answerOf b → a ≡ b

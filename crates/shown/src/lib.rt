@@ -3,7 +3,7 @@
 ghost use mathlib.Core.Path.{_≡_};
 ghost use Rattle.basis.specs.Numbers.{stepLength};
 ghost use Rattle.shown.specs.Blend.{blendOf};
-ghost use Rattle.shown.specs.Answer.{placeOf};
+ghost use Rattle.shown.specs.Answer.{shownPlace};
 
 pub struct Place {
     pub x: f64,
@@ -32,7 +32,7 @@ impl Place {
 
     // Of a carrier that was at (px, py) before the last step and is at (cx, cy) after it.
     pub fn shown(px: i32, py: i32, cx: i32, cy: i32, remainder: u32) -> Place
-        ensures placed { λ r. ⌜ r ≡ placeOf stepLength px py cx cy remainder ⌝ }
+        ensures placed { λ r. ⌜ r ≡ shownPlace stepLength px py cx cy remainder ⌝ }
     {
         let x = blend(px, cx, remainder);
         let y = blend(py, cy, remainder);

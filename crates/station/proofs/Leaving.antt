@@ -4,14 +4,14 @@ use mathlib.Core.Path.{_≡_, refl, sym, ap, _∙_}
 use mathlib.Core.List.{List}
 use lib.IntN.{ℤ}
 use Rattle.basis.specs.Order.{Answer, refused, accepted}
-use Rattle.session.specs.Answers.{Replay, replay, replayLeft}
+use Rattle.session.specs.Answers.{ReplayLeft, replay, replayLeft}
 use Rattle.session.specs.Lent.{Lent, Made}
-use Rattle.session.specs.Lent.{Left as SessionLeft, left as sessionLeft, leaves as sessionLeaves}
+use Rattle.session.specs.Lent.{made, leaves as sessionLeaves}
 use Rattle.session.specs.declared.Replayed.{Replayed}
 use Rattle.session.specs.declared.Replayed.the-variants as replayed
 use Rattle.session.specs.declared.Session.{Session}
 use Rattle.station.specs.Left.{filled, fills, DONE, left, leaves}
-use Rattle.station.specs.Words.{wordsOf}
+use Rattle.station.specs.Words.{sessionWords}
 
 -- What replay answers, by its number.
 abbrev pub replay-number : Replayed → ℕ
@@ -23,7 +23,7 @@ module _ {r : Replayed} (before : List ℤ) {after : List ℤ} (a : Answer (List
     (e : replayLeft r after ≡ replay before a) where
   replay-fills : filled (replay-number r) after ≡ fills before a
   replay-fills =
-      ap (λ (x : Replay). filled (replay-number (x .answer)) (x .state)) e ∙ go a
+      ap (λ (x : ReplayLeft). filled (replay-number (x .answer)) (x .state)) e ∙ go a
     where
       go : (a : Answer (List ℤ))
           → filled (replay-number (replay before a .answer)) (replay before a .state)
@@ -41,7 +41,7 @@ module _ {r : Replayed} (before : List ℤ) {after : List ℤ} (a : Answer (List
 -- What a call of `session` leaves is what the C face leaves.
 module _ {A : Type 0} (number-of : A → ℕ) (session-of : A → Session) (words : List ℕ) (l : Lent)
     (a : Answer A) (b : Answer (Made A)) {state rows : List ℤ} {log : List ℕ}
-    (e : sessionLeft a state rows log ≡ sessionLeaves l b) where
+    (e : made a state rows log ≡ sessionLeaves l b) where
   -- The number and the words that an answer gives.
   answer-number : Answer A → ℕ
   answer-number (refused number) = number
@@ -49,22 +49,22 @@ module _ {A : Type 0} (number-of : A → ℕ) (session-of : A → Session) (word
 
   answer-words : Answer A → List ℕ
   answer-words (refused number) = words
-  answer-words (accepted x) = wordsOf (session-of x)
+  answer-words (accepted x) = sessionWords (session-of x)
 
   leaving : left (answer-number a) state rows log (answer-words a)
       ≡ leaves number-of session-of l words b
   unfolding answer-number answer-words
   leaving =
       ap
-      (λ (x : SessionLeft A). left (answer-number (x .answer)) (x .state) (x .rows) (x .log)
-      (answer-words (x .answer)))
+      (λ (x : Made (Answer A)). left (answer-number (x .result)) (x .state) (x .rows) (x .log)
+      (answer-words (x .result)))
       e
       ∙ go b
     where
       go : (b : Answer (Made A))
-          → left (answer-number (sessionLeaves l b .answer)) (sessionLeaves l b .state)
+          → left (answer-number (sessionLeaves l b .result)) (sessionLeaves l b .state)
           (sessionLeaves l b .rows) (sessionLeaves l b .log)
-          (answer-words (sessionLeaves l b .answer))
+          (answer-words (sessionLeaves l b .result))
           ≡ leaves number-of session-of l words b
       go (refused number) = refl
       go (accepted m) = refl
@@ -75,7 +75,7 @@ module _ {A : Type 0} (number-of : A → ℕ) (session-of : A → Session) (word
   leaves-refused q =
       sym (ap (λ x. left (answer-number x) state rows log (answer-words x)) q) ∙ leaving
 
-  pub leaves-accepted : {x : A} {after : List ℕ} → a ≡ accepted x → after ≡ wordsOf (session-of x)
+  pub leaves-accepted : {x : A} {after : List ℕ} → a ≡ accepted x → after ≡ sessionWords (session-of x)
       → left (number-of x) state rows log after ≡ leaves number-of session-of l words b
   unfolding answer-number answer-words
   leaves-accepted {x} q put =

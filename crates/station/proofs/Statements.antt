@@ -20,15 +20,15 @@ use Rattle.session.specs.Sound.{room, sound}
 use Rattle.session.specs.declared.Session.{Session}
 use Rattle.session.proofs.Good.{good}
 use Rattle.session.proofs.Room.{width-most, height-most, carriers-most}
-use Rattle.station.specs.Words.{wordsOf, sessionOf, nine}
+use Rattle.station.specs.Words.{sessionWords, sessionOf, nine}
 use Rattle.station.specs.Left.{Filled, filled, Left}
 use Rattle.station.specs.Face.{openFace, readingFace, deliverFace, shows, digestFace}
 use Rattle.station.specs.Face.{shownFace}
 use Rattle.station.specs.Statements.{NineWords, OneOutcome, OneLeft, Determined, Refusals}
 use Rattle.station.specs.Statements.{Lengths, Thin}
 
-session-back : (words : List ℕ) → length words ≡ 9 → wordsOf (sessionOf words) ≡ words
-unfolding wordsOf sessionOf
+session-back : (words : List ℕ) → length words ≡ 9 → sessionWords (sessionOf words) ≡ words
+unfolding sessionWords sessionOf
 session-back (a ∷ b ∷ c ∷ d ∷ e ∷ f ∷ g ∷ h ∷ i ∷ []) long = refl
 session-back (a ∷ b ∷ c ∷ d ∷ e ∷ f ∷ g ∷ h ∷ i ∷ j ∷ rest) long = absurd (omega arith)
 session-back (a ∷ b ∷ c ∷ d ∷ e ∷ f ∷ g ∷ h ∷ []) long = absurd (omega arith)
@@ -173,8 +173,8 @@ delivers bytes l words long = passes _ _ (eq-eqb _ _ long)
 pub thin : Thin
 thin = record { opens = opens; reading = readings; deliver = delivers }
 
-session-forth : (s : Session) → sessionOf (wordsOf s) ≡ s
-unfolding wordsOf sessionOf
+session-forth : (s : Session) → sessionOf (sessionWords s) ≡ s
+unfolding sessionWords sessionOf
 session-forth s = refl
 
 pub nineWords : NineWords

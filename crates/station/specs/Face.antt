@@ -53,12 +53,13 @@ openFace yard reading l words =
     (check (nine words) ROOM
     (openOrder yard reading l))
 
--- `wuthracomb_reading`, `wuthracomb_deliver`: 14 for a session that isn't nine words.
+-- `wuthracomb_reading`: 14 for a session that isn't nine words.
 unfoldable pub readingFace : ℕ → Lent → List ℕ → Order (Made Session)
 readingFace reading l words =
     check (nine words) FAULT
     (readingOrder (sessionOf words) l reading)
 
+-- `wuthracomb_deliver`: in the same way.
 unfoldable pub deliverFace : List ℕ → Lent → List ℕ → Order (Made Delivery)
 deliverFace bytes l words =
     check (nine words) FAULT

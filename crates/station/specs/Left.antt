@@ -2,14 +2,13 @@
 use Prim.Native.Nat.{ℕ}
 use mathlib.Core.List.{List}
 use lib.IntN.{ℤ}
-use Rattle.basis.specs.Numbers.{TAKEN, HELD}
 use Rattle.basis.specs.Order.{Answer, refused, accepted}
-use Rattle.session.specs.Calls.{Delivery, taken, held}
+use Rattle.session.specs.Calls.{Delivery}
 use Rattle.session.specs.Lent.{Lent, Made}
 use Rattle.session.specs.declared.Session.{Session}
-use Rattle.station.specs.Words.{wordsOf}
+use Rattle.station.specs.Words.{sessionWords}
 
--- 'An accepted call other than a delivery gives its result and none of these numbers.'
+-- 'An accepted call other than a delivery gives its result and none of these numbers': 255 is none.
 abbrev pub DONE : ℕ
 DONE = 255
 
@@ -18,6 +17,7 @@ pub record Filled (A : Type 0) : Type 0 where
   pub number : ℕ
   pub out : List A
 
+-- The two, as one.
 abbrev pub filled : {A : Type 0} → ℕ → List A → Filled A
 filled number out = record { number = number; out = out }
 
@@ -35,6 +35,7 @@ pub record Left : Type 0 where
   pub log : List ℕ
   pub session : List ℕ
 
+-- The five, as one.
 abbrev pub left : ℕ → List ℤ → List ℤ → List ℕ → List ℕ → Left
 left number state rows log session =
     record { number = number; state = state; rows = rows; log = log; session = session }
@@ -45,20 +46,12 @@ abbrev pub leaves : {A : Type 0} → (A → ℕ) → (A → Session) → Lent �
 leaves numberOf sessionOf l words (refused number) =
     left number (l .state) (l .rows) (l .log) words
 leaves numberOf sessionOf l words (accepted m) =
-    left (numberOf (m .result)) (m .state) (m .rows) (m .log) (wordsOf (sessionOf (m .result)))
+    left (numberOf (m .result)) (m .state) (m .rows) (m .log) (sessionWords (sessionOf (m .result)))
 
 -- Opening and a reading: 255 and the session.
 abbrev pub leavesRunning : Lent → List ℕ → Answer (Made Session) → Left
 leavesRunning = leaves (λ session. DONE) (λ session. session)
 
 -- A delivery: 0 or 1, and the session.
-abbrev pub deliveredNumber : Delivery → ℕ
-deliveredNumber (taken session) = TAKEN
-deliveredNumber (held session) = HELD
-
-abbrev pub deliveredSession : Delivery → Session
-deliveredSession (taken session) = session
-deliveredSession (held session) = session
-
 abbrev pub leavesDelivered : Lent → List ℕ → Answer (Made Delivery) → Left
-leavesDelivered = leaves deliveredNumber deliveredSession
+leavesDelivered = leaves (λ delivery. delivery .number) (λ delivery. delivery .session)

@@ -15,7 +15,7 @@ use Rattle.session.specs.Calls.{Delivery}
 use Rattle.session.specs.Lent.{Lent, Made}
 use Rattle.session.specs.Sound.{room, sound}
 use Rattle.session.specs.declared.Session.{Session}
-use Rattle.station.specs.Words.{wordsOf, sessionOf, nine}
+use Rattle.station.specs.Words.{sessionWords, sessionOf, nine}
 use Rattle.station.specs.Left.{Filled, filled, fills, Left, left, leavesRunning}
 use Rattle.station.specs.Left.{leavesDelivered}
 use Rattle.station.specs.Face.{logSound, stepRecordsFace, readRecordFace, writeRecordFace}
@@ -24,9 +24,9 @@ use Rattle.station.specs.Face.{openFace, readingFace, deliverFace, diges
 -- A session and its nine words.
 pub record NineWords : Type 0 where
   -- The words that a call leaves are, at the next call, the session that it made.
-  pub session : (s : Session) → sessionOf (wordsOf s) ≡ s
+  pub session : (s : Session) → sessionOf (sessionWords s) ≡ s
   -- Nine words are those of the session in them.
-  pub words : (words : List ℕ) → length words ≡ 9 → wordsOf (sessionOf words) ≡ words
+  pub words : (words : List ℕ) → length words ≡ 9 → sessionWords (sessionOf words) ≡ words
   -- A word is compared whole: W, H or B above its range is unsound, also 2^32 above a good one.
   pub whole : (words : List ℕ) (l : Lent) (k : ℕ) → k < 3 → 64 < getD words k 0
       → sound (sessionOf words) l ≡ false
@@ -36,6 +36,7 @@ abbrev pub OneOutcome : {A : Type 0} → Filled A → Type 0
 OneOutcome {A} x =
     (r s : ℕ) (out other : List A) → filled r out ≡ x → filled s other ≡ x → (r ≡ s) × (out ≡ other)
 
+-- The same of a call that may change four slices.
 abbrev pub OneLeft : Left → Type 0
 OneLeft x =
     (r s : ℕ) (state state′ rows rows′ : List ℤ) (log log′ session session′ : List ℕ)

@@ -7,8 +7,8 @@ use lib.ListN.{getD, length}
 use Rattle.session.specs.declared.Session.{Session}
 
 -- The words of a session.
-unfoldable pub wordsOf : Session → List ℕ
-wordsOf session =
+unfoldable pub sessionWords : Session → List ℕ
+sessionWords session =
     session .yard .w
     ∷ session .yard .h
     ∷ session .yard .b

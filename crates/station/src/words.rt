@@ -3,7 +3,7 @@
 ghost use mathlib.Core.Path.{_≡_};
 ghost use Prim.Native.Nat.{_<_, _^_};
 ghost use lib.ListN.{getD, length};
-ghost use Rattle.station.specs.Words.{sessionOf, wordsFit, wordsOf};
+ghost use Rattle.station.specs.Words.{sessionOf, wordsFit, sessionWords};
 use clock::Clock;
 use session::Session;
 use yard::Yard;
@@ -61,7 +61,7 @@ pub fn session_of(words: &[u64]) -> Session
 // The nine words of a session.
 pub fn put_session(session: Session, words: &mut [u64])
     requires room { ⌜ length (now words) ≡ 9 ⌝ }
-    ensures put { λ _. ⌜ now (words .exit) ≡ wordsOf session ⌝ }
+    ensures put { λ _. ⌜ now (words .exit) ≡ sessionWords session ⌝ }
 {
     let yard = session.yard;
     let clock = session.clock;

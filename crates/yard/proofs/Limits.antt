@@ -15,7 +15,7 @@ use Rattle.basis.proofs.Tests.{and-left, and-right}
 use Rattle.yard.specs.declared.levers.Axis.{Axis}
 use Rattle.yard.specs.declared.levers.Axis.the-variants.{X, Y}
 use Rattle.yard.specs.declared.levers.Push.{Push}
-use Rattle.yard.specs.Levers.{on, push, pushes, pushOf, cut, brake, newSpeed}
+use Rattle.yard.specs.Levers.{along, push, pushes, pushOf, cut, brake, newSpeed}
 use Rattle.yard.proofs.Cases.{of-cond}
 use Rattle.yard.proofs.Signed.{abs-neg, mag≤abs}
 
@@ -40,7 +40,7 @@ unfolding within12 pushOf
 table = all-at within12 pushes (push (pos 0) (pos 0)) refl refl
 
 pub push-within : (axis : Axis) (lever : ℕ)
-    → natAbs (on axis (pushOf lever .x) (pushOf lever .y)) ≤ 12
+    → natAbs (along axis (pushOf lever .x) (pushOf lever .y)) ≤ 12
 unfolding within12
 push-within X lever =
     leb-true _ 12 (and-left _ (leb (natAbs (pushOf lever .y)) 12) (table lever))

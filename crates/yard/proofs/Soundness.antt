@@ -15,7 +15,7 @@ use Rattle.yard.specs.declared.levers.Axis.the-variants.{X, Y}
 use Rattle.yard.specs.Ranges.{between}
 use Rattle.yard.specs.Levers.{newSpeed}
 use Rattle.yard.specs.Slide.{slide}
-use Rattle.yard.specs.Step.{leverAfter, LeverFits, atRest, step, sound}
+use Rattle.yard.specs.Step.{leverAfter, LeverFits, atRest, step, soundCarrier}
 use Rattle.yard.specs.Statements.{FromTo}
 use Rattle.yard.proofs.Fits.{from-to}
 use Rattle.yard.proofs.Limits.{speed-within}
@@ -47,27 +47,27 @@ pub record Good (free : ℤ → ℤ → Bool) (carrier : Carrier) : Type 0 where
 module _ (free : ℤ → ℤ → Bool) (carrier : Carrier) where
   -- The state rule, where the lever's test says a fact.
   by-lever : {L : Type 0} → (between (pos 0) (carrier .lever) (pos 9) ≡ true) ↔ L
-      → (sound free carrier ≡ true)
+      → (soundCarrier free carrier ≡ true)
       ↔ ((free (carrier .x) (carrier .y) ≡ true)
       × (natAbs (carrier .u) ≤ 200)
       × (natAbs (carrier .v) ≤ 200)
       × L)
-  unfolding sound
+  unfolding soundCarrier
   by-lever = says-four Iff·rfl (either-way 199 (carrier .u)) (either-way 199 (carrier .v))
 
-  pub rule : (sound free carrier ≡ true)
+  pub rule : (soundCarrier free carrier ≡ true)
       ↔ ((free (carrier .x) (carrier .y) ≡ true)
       × (natAbs (carrier .u) ≤ 200)
       × (natAbs (carrier .v) ≤ 200)
       × FromTo 0 9 (carrier .lever))
   rule = by-lever (from-to 0 9 (carrier .lever))
 
-  pub good-of : sound free carrier ≡ true → Good free carrier
+  pub good-of : soundCarrier free carrier ≡ true → Good free carrier
   good-of e =
       let (here, u, v, lever) = by-lever Iff·rfl .0 e in
       record { here = here; u = u; v = v; lever = lever }
 
-  pub of-good : Good free carrier → sound free carrier ≡ true
+  pub of-good : Good free carrier → soundCarrier free carrier ≡ true
   of-good g = by-lever Iff·rfl .1 (g .here, g .u, g .v, g .lever)
 
 -- Part 1 leaves a lever 0 to 9.
@@ -95,11 +95,13 @@ module _ (free : ℤ → ℤ → Bool) (held : Held) (carrier : Carrier) (h : Le
         lever = lever-holds held (carrier .lever) h (g .lever);
       }
 
-  pub step-sound : sound free carrier ≡ true → sound free (step free held carrier) ≡ true
+  pub step-sound : soundCarrier free carrier ≡ true
+      → soundCarrier free (step free held carrier) ≡ true
   step-sound e = of-good free (step free held carrier) (good-step (good-of free carrier e))
 
 -- A carrier at rest is sound where it is free.
-pub rest-sound : (free : ℤ → ℤ → Bool) (x y : ℤ) → free x y ≡ true → sound free (atRest x y) ≡ true
+pub rest-sound : (free : ℤ → ℤ → Bool) (x y : ℤ) → free x y ≡ true
+    → soundCarrier free (atRest x y) ≡ true
 rest-sound free x y h =
     of-good free (atRest x y)
     (record { here = h; u = omega arith; v = omega arith; lever = zero-to 9 0 (omega arith) })

@@ -174,11 +174,3 @@ module _ (yard : Yard) (cells : List ℕ) (size : Size) where
   near (pos x) (pos y) fit e = let h = inside yard cells size x y e in (omega arith, omega arith)
   near (pos x) (negsuc y) fit e = never e (above (pos x) y)
   near (negsuc x) y fit e = never e (left x y)
-
--- W, H, the cells, the size and the place are all that free depends on.
-pub alone : (a b : Yard) (cells : List ℕ) (size : Size) (x y : ℤ) → a .w ≡ b .w → a .h ≡ b .h
-    → free a cells size x y ≡ free b cells size x y
-unfolding free noWall wall
-alone a b cells size (pos x) (pos y) w h = rw (w, h)
-alone a b cells size (pos x) (negsuc y) w h = refl
-alone a b cells size (negsuc x) y w h = refl

@@ -4,12 +4,12 @@ use Rattle.yard.specs.Statements.{Determined, Free, Rule9, Every, Table,
 use Rattle.yard.proofs.Every.{passes, all-pass}
 use Rattle.yard.proofs.Fits.{ranges, cells, sizes, starts}
 use Rattle.yard.proofs.Limits.{push-within, speed-within}
-use Rattle.yard.proofs.Squares.{reading, left, above, near, alone}
+use Rattle.yard.proofs.Squares.{reading, left, above, near}
 use Rattle.yard.proofs.Walk.{walked, only}
 use Rattle.yard.proofs.Soundness.{rule, rest-sound, step-sound, step-same}
 
 pub free : Free
-free = record { reading = reading; left = left; above = above; near = near; alone = alone }
+free = record { means = reading; left = left; above = above; near = near }
 
 pub determined : Determined
 determined = record { ranges = λ yard p q. p ∙ sym q; cells = λ cells p q. p ∙ sym q }
@@ -18,7 +18,7 @@ pub rule9 : Rule9
 rule9 = record { ranges = ranges; cells = cells; sizes = sizes; starts = starts }
 
 pub every : Every
-every = record { reading = λ test n. (passes test n, all-pass test n) }
+every = record { means = λ test n. (passes test n, all-pass test n) }
 
 pub table : Table
 table = record { nine = refl; push = push-within; speed = speed-within }

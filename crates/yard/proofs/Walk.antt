@@ -12,7 +12,7 @@ use lib.Signed.{ltZ}
 use Rattle.basis.proofs.Tests.{never}
 use Rattle.yard.specs.declared.levers.Axis.{Axis}
 use Rattle.yard.specs.declared.levers.Axis.the-variants.{X, Y}
-use Rattle.yard.specs.Levers.{on}
+use Rattle.yard.specs.Levers.{along}
 use Rattle.yard.specs.Slide.{toward, clearOn, walk, distance, slide}
 use Rattle.yard.specs.Statements.{Walked}
 use Rattle.yard.proofs.Cases.{of-cond}
@@ -91,7 +91,7 @@ module _ (clear : ℕ → Bool) where
 
 -- The same of a move along an axis.
 pub on-abs : (axis : Axis) (x y : ℤ) {b : ℕ} → natAbs x ≤ b → natAbs y ≤ b
-    → natAbs (on axis x y) ≤ b
+    → natAbs (along axis x y) ≤ b
 on-abs X x y hx hy = hx
 on-abs Y x y hx hy = hy
 

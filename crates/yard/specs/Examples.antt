@@ -4,6 +4,7 @@ use mathlib.Core.Path.{_≡_}
 use mathlib.Core.List.{List, [], _∷_}
 use lib.IntN.{ℤ, pos}
 use Rattle.yard.specs.declared.world.Size.{Size}
+use Rattle.yard.specs.declared.world.Yard.{Yard}
 use Rattle.yard.specs.declared.carrier.Carrier.{Carrier}
 use Rattle.yard.specs.declared.carrier.Held.{Held}
 use Rattle.yard.specs.declared.carrier.Held.the-variants.{Nothing, Lever}
@@ -24,9 +25,13 @@ practiceCells =
     ∷ 0 ∷ 0 ∷ 0 ∷ 1
     ∷ 0 ∷ 0 ∷ 0 ∷ 0 ∷ []
 
+-- 'W 4, H 3', 'one carrier'.
+abbrev pub practiceYard : Yard
+practiceYard = record { w = 4; h = 3; b = 1 }
+
 -- One step in the practice yard.
-abbrev pub practice : Held → Carrier → Carrier
-practice = step (free (record { w = 4; h = 3; b = 1 }) practiceCells box)
+abbrev pub inPractice : Held → Carrier → Carrier
+inPractice = step (free practiceYard practiceCells box)
 
 -- '3 by 3 yard, wall only at column 2, row 2', row by row.
 abbrev pub cornerCells : List ℕ
@@ -36,8 +41,8 @@ cornerCells =
     ∷ 0 ∷ 0 ∷ 1 ∷ []
 
 -- One step in the yard of K.
-abbrev pub corner : Held → Carrier → Carrier
-corner = step (free (record { w = 3; h = 3; b = 1 }) cornerCells box)
+abbrev pub inCorner : Held → Carrier → Carrier
+inCorner = step (free (record { w = 3; h = 3; b = 1 }) cornerCells box)
 
 -- A carrier at (x, y) with its speeds and its lever.
 abbrev pub at : ℕ → ℕ → ℤ → ℤ → ℕ → Carrier
@@ -45,11 +50,11 @@ at x y u v lever = record { x = pos x; y = pos y; u = u; v = v; lever = pos leve
 
 -- 'E: from rest, lever 1: u 12, x grows by 12.'
 abbrev pub ExampleE : Type 0
-ExampleE = practice (Lever 1) (at 0 256 (pos 0) (pos 0) 0) ≡ at 12 256 (pos 12) (pos 0) 1
+ExampleE = inPractice (Lever 1) (at 0 256 (pos 0) (pos 0) 0) ≡ at 12 256 (pos 12) (pos 0) 1
 
 -- 'F: u 195, lever 1: 200.'
 abbrev pub ExampleF : Type 0
-ExampleF = practice Nothing (at 0 256 (pos 195) (pos 0) 1) ≡ at 200 256 (pos 200) (pos 0) 1
+ExampleF = inPractice Nothing (at 0 256 (pos 195) (pos 0) 1) ≡ at 200 256 (pos 200) (pos 0) 1
 
 -- 'G: brake on -3 gives -1, on 1 gives 0.'
 abbrev pub ExampleG : Type 0
@@ -57,26 +62,16 @@ ExampleG = (newSpeed X 9 (minus 3) ≡ minus 1) × (newSpeed X 9 (pos 1) ≡ pos
 
 -- 'H: practice yard, carrier at (500, 256), u 0, lever 1: x 512, u 12.'
 abbrev pub ExampleH : Type 0
-ExampleH = practice Nothing (at 500 256 (pos 0) (pos 0) 1) ≡ at 512 256 (pos 12) (pos 0) 1
+ExampleH = inPractice Nothing (at 500 256 (pos 0) (pos 0) 1) ≡ at 512 256 (pos 12) (pos 0) 1
 
 -- 'I: next step: x 512, u 0.'
 abbrev pub ExampleI : Type 0
-ExampleI = practice Nothing (at 512 256 (pos 12) (pos 0) 1) ≡ at 512 256 (pos 0) (pos 0) 1
+ExampleI = inPractice Nothing (at 512 256 (pos 12) (pos 0) 1) ≡ at 512 256 (pos 0) (pos 0) 1
 
 -- 'J: carrier at (5, 256), u 0, lever 5: x 0, u 0.'
 abbrev pub ExampleJ : Type 0
-ExampleJ = practice Nothing (at 5 256 (pos 0) (pos 0) 5) ≡ at 0 256 (pos 0) (pos 0) 5
+ExampleJ = inPractice Nothing (at 5 256 (pos 0) (pos 0) 5) ≡ at 0 256 (pos 0) (pos 0) 5
 
 -- 'K: 3 by 3 yard ..; 256 by 256 carrier at rest at (256, 256), lever 2: (264, 256), u 8, v 0.'
 abbrev pub ExampleK : Type 0
-ExampleK = corner Nothing (at 256 256 (pos 0) (pos 0) 2) ≡ at 264 256 (pos 8) (pos 0) 2
-
--- All of them, by letter.
-pub record Examples : Type 0 where
-  pub e : ExampleE
-  pub f : ExampleF
-  pub g : ExampleG
-  pub h : ExampleH
-  pub i : ExampleI
-  pub j : ExampleJ
-  pub k : ExampleK
+ExampleK = inCorner Nothing (at 256 256 (pos 0) (pos 0) 2) ≡ at 264 256 (pos 8) (pos 0) 2

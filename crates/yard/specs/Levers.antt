@@ -12,9 +12,9 @@ use Rattle.yard.specs.declared.levers.Push.{Push}
 use Rattle.yard.specs.Ranges.{minus}
 
 -- The one of two numbers that is along the axis.
-abbrev pub on : Axis → ℤ → ℤ → ℤ
-on X x y = x
-on Y x y = y
+abbrev pub along : Axis → ℤ → ℤ → ℤ
+along X x y = x
+along Y x y = y
 
 -- A pair of pushes: along x, along y.
 abbrev pub push : ℤ → ℤ → Push
@@ -52,4 +52,4 @@ brake old = quotZ old (pos 2)
 unfoldable pub newSpeed : Axis → ℕ → ℤ → ℤ
 newSpeed axis lever old =
     cond (eqb lever 9) (brake old)
-    (cut (old +ℤ on axis (pushOf lever .x) (pushOf lever .y)))
+    (cut (old +ℤ along axis (pushOf lever .x) (pushOf lever .y)))

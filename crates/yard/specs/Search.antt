@@ -40,7 +40,8 @@ Open yard cells block =
     (column row : ℕ) → InBlock block column row → wall yard cells column row ≡ false
 
 -- The cell is the block's first wall: lowest row, then lowest column.
-pub record First (yard : Yard) (cells : List ℕ) (block : Block) (column row : ℕ) : Type 0 where
+pub record FirstInBlock (yard : Yard) (cells : List ℕ) (block : Block) (column row : ℕ)
+    : Type 0 where
   pub inside : InBlock block column row
   pub there : wall yard cells column row ≡ true
   pub rows : (c r : ℕ) → InBlock block c r → r < row → wall yard cells c r ≡ false
@@ -49,4 +50,4 @@ pub record First (yard : Yard) (cells : List ℕ) (block : Block) (column row : 
 -- What a search of the block answers.
 abbrev pub Finds : Yard → List ℕ → Block → Met → Type 0
 Finds yard cells block Nothing = Open yard cells block
-Finds yard cells block (Wall column row) = First yard cells block column row
+Finds yard cells block (Wall column row) = FirstInBlock yard cells block column row

@@ -7,7 +7,7 @@ use lib.IntN.{ℤ, pos, negsuc, natAbs, _+ℤ_, _-ℤ_}
 use Rattle.yard.specs.declared.levers.Axis.{Axis}
 use Rattle.yard.specs.declared.levers.Axis.the-variants.{X, Y}
 use Rattle.yard.specs.declared.slide.Moved.{Moved}
-use Rattle.yard.specs.Levers.{on}
+use Rattle.yard.specs.Levers.{along}
 
 -- 'in the direction of u': so many units on from a place.
 unfoldable pub toward : ℤ → ℤ → ℕ → ℤ
@@ -33,6 +33,6 @@ unfoldable pub slide : (ℤ → ℤ → Bool) → Axis → ℤ → ℤ → ℤ �
 slide free axis speed x y =
     let units : ℕ = distance free axis speed x y in
     record {
-      at = toward speed (on axis x y) units;
+      at = toward speed (along axis x y) units;
       speed = cond (ltb units (natAbs speed)) (pos 0) speed;
     }

@@ -16,9 +16,9 @@ use Rattle.yard.specs.Ranges.{every}
 use Rattle.yard.specs.World.{word, sizeOf, CellsFit}
 use Rattle.yard.specs.Free.{wall, free}
 use Rattle.yard.specs.Rule9.{rangesHold, cellsHold, sizesHold, startsHold}
-use Rattle.yard.specs.Levers.{on, pushes, pushOf, newSpeed}
+use Rattle.yard.specs.Levers.{along, pushes, pushOf, newSpeed}
 use Rattle.yard.specs.Slide.{clearOn, distance}
-use Rattle.yard.specs.Step.{LeverFits, atRest, step, sound}
+use Rattle.yard.specs.Step.{LeverFits, atRest, step, soundCarrier}
 
 -- The box at (x, y) ends in the yard, and no unit square of it lies in a wall cell.
 pub record Clear (yard : Yard) (cells : List ℕ) (size : Size) (x y : ℕ) : Type 0 where
@@ -33,7 +33,7 @@ pub record Clear (yard : Yard) (cells : List ℕ) (size : Size) (x y : ℕ) : Ty
 -- 'The yard and its carriers': what free means.
 pub record Free : Type 0 where
   -- Where x and y are at least 0: in the yard, touching allowed, no unit square in a wall cell.
-  pub reading : (yard : Yard) (cells : List ℕ) (size : Size) (x y : ℕ)
+  pub means : (yard : Yard) (cells : List ℕ) (size : Size) (x y : ℕ)
       → (free yard cells size (pos x) (pos y) ≡ true) ↔ Clear yard cells size x y
   -- Left of the yard nothing is free.
   pub left : (yard : Yard) (cells : List ℕ) (size : Size) (x : ℕ) (y : ℤ)
@@ -44,9 +44,6 @@ pub record Free : Type 0 where
   -- A place that is free is at most 16,384 units from 0, so no sum on it wraps.
   pub near : (yard : Yard) (cells : List ℕ) (size : Size) (x y : ℤ) → CellsFit yard cells
       → free yard cells size x y ≡ true → (natAbs x ≤ 16384) × (natAbs y ≤ 16384)
-  -- The number of carriers plays no part.
-  pub alone : (a b : Yard) (cells : List ℕ) (size : Size) (x y : ℤ) → a .w ≡ b .w → a .h ≡ b .h
-      → free a cells size x y ≡ free b cells size x y
 
 -- 'any two outcomes allowed by it coincide', for the contract of each public entry.
 pub record Determined : Type 0 where
@@ -59,7 +56,7 @@ pub record Determined : Type 0 where
 abbrev pub FromTo : ℕ → ℕ → ℤ → Type 0
 FromTo low high z = (n : ℕ) × (z ≡ pos n) × (low ≤ n) × (n ≤ high)
 
--- Rule 9, part by part in their order: each test holds if and only if its part gives no reason.
+-- Rule 9, part by part in their order: each test holds if and only if that part refuses nothing.
 pub record Rule9 : Type 0 where
   -- No 'W, H or B out of range': 'each of W and H from 1 to 64', 'B carriers, 1 to 32'.
   pub ranges : (yard : Yard) → (rangesHold yard ≡ true)
@@ -81,7 +78,7 @@ pub record Rule9 : Type 0 where
 -- How a test of every number below n reads, in rule 9 and in `noWall`.
 pub record Every : Type 0 where
   -- It passes if and only if each number passes.
-  pub reading : (test : ℕ → Bool) (n : ℕ)
+  pub means : (test : ℕ → Bool) (n : ℕ)
       → (every n test ≡ true) ↔ ((k : ℕ) → k < n → test k ≡ true)
 
 -- 'Levers': the table, and speeds.
@@ -90,7 +87,7 @@ pub record Table : Type 0 where
   pub nine : length pushes ≡ 9
   -- No push is above 12 either way, by one test over the table.
   pub push : (axis : Axis) (lever : ℕ)
-      → natAbs (on axis (pushOf lever .x) (pushOf lever .y)) ≤ 12
+      → natAbs (along axis (pushOf lever .x) (pushOf lever .y)) ≤ 12
   -- A new speed is within 200 either way where the old one is.
   pub speed : (axis : Axis) (lever : ℕ) (old : ℤ) → natAbs old ≤ 200
       → natAbs (newSpeed axis lever old) ≤ 200
@@ -116,17 +113,17 @@ pub record Move : Type 0 where
 -- 'One step' of one carrier, whatever places are free.
 pub record Step : Type 0 where
   -- Sound: 'free, speeds within 200 either way, lever 0 to 9'.
-  pub rule : (free : ℤ → ℤ → Bool) (carrier : Carrier) → (sound free carrier ≡ true)
+  pub rule : (free : ℤ → ℤ → Bool) (carrier : Carrier) → (soundCarrier free carrier ≡ true)
       ↔ ((free (carrier .x) (carrier .y) ≡ true)
       × (natAbs (carrier .u) ≤ 200)
       × (natAbs (carrier .v) ≤ 200)
       × FromTo 0 9 (carrier .lever))
   -- A carrier at rest where it is free is sound.
   pub rest : (free : ℤ → ℤ → Bool) (x y : ℤ) → free x y ≡ true
-      → sound free (atRest x y) ≡ true
+      → soundCarrier free (atRest x y) ≡ true
   -- A sound carrier stays sound: free, speeds within 200 either way, lever 0 to 9.
   pub stays : (free : ℤ → ℤ → Bool) (held : Held) (carrier : Carrier) → LeverFits held
-      → sound free carrier ≡ true → sound free (step free held carrier) ≡ true
+      → soundCarrier free carrier ≡ true → soundCarrier free (step free held carrier) ≡ true
   -- Which places are free is all that a step asks of the yard.
   pub same : (free other : ℤ → ℤ → Bool) → ((x y : ℤ) → free x y ≡ other x y)
       → (held : Held) (carrier : Carrier) → step free held carrier ≡ step other held carrier

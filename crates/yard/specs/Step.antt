@@ -34,8 +34,8 @@ step free held carrier =
     }
 
 -- 'free, speeds within 200 either way, lever 0 to 9'
-unfoldable pub sound : (ℤ → ℤ → Bool) → Carrier → Bool
-sound free carrier =
+unfoldable pub soundCarrier : (ℤ → ℤ → Bool) → Carrier → Bool
+soundCarrier free carrier =
     free (carrier .x) (carrier .y)
     && between (minus 200) (carrier .u) (pos 200)
     && between (minus 200) (carrier .v) (pos 200)

@@ -16,13 +16,13 @@ word boxes i k = getD boxes (4 * i + k) (pos 0)
 unfoldable pub sizeOf : List ℤ → ℕ → Size
 sizeOf boxes i = record { w = natAbs (word boxes i 2); h = natAbs (word boxes i 3) }
 
--- W and H within their ranges, and W·H cell bytes.
+-- W and H at most 64, and W·H cell bytes.
 pub record CellsFit (yard : Yard) (cells : List ℕ) : Type 0 where
   pub w : yard .w ≤ 64
   pub h : yard .h ≤ 64
   pub room : length cells ≡ yard .w * yard .h
 
--- B within its range, and 4·B world words.
+-- B at most 32, and 4·B world words.
 pub record BoxesFit (yard : Yard) (boxes : List ℤ) : Type 0 where
   pub b : yard .b ≤ mostCarriers
   pub room : length boxes ≡ 4 * yard .b

@@ -3,7 +3,7 @@ ghost use mathlib.Core.Path.{_≡_};
 ghost use mathlib.Core.Bool.{true};
 ghost use Rattle.yard.specs.World.{CellsFit, SizeFits};
 ghost use Rattle.yard.specs.Free.{free};
-ghost use Rattle.yard.specs.Step.{leverAfter, LeverFits, step, sound};
+ghost use Rattle.yard.specs.Step.{leverAfter, LeverFits, step, soundCarrier};
 use super::levers::Axis;
 use super::levers::Speed;
 use super::levers::new_speed;
@@ -44,7 +44,7 @@ pub fn step(yard: Yard, cells: &[u8], size: Size, held: Held, carrier: Carrier) 
     requires laid { ⌜ CellsFit yard (now cells) ⌝ }
     requires sized { ⌜ SizeFits size ⌝ }
     requires table { ⌜ LeverFits held ⌝ }
-    requires sound { ⌜ sound (free yard (now cells) size) carrier ≡ true ⌝ }
+    requires sound { ⌜ soundCarrier (free yard (now cells) size) carrier ≡ true ⌝ }
     ensures stepped { λ r. ⌜ r ≡ step (free yard (now (cells .entry)) size) held carrier ⌝ }
 {
     let x = carrier.x;
@@ -75,7 +75,7 @@ pub fn step(yard: Yard, cells: &[u8], size: Size, held: Held, carrier: Carrier) 
 pub fn is_sound(yard: Yard, cells: &[u8], size: Size, carrier: Carrier) -> bool
     requires laid { ⌜ CellsFit yard (now cells) ⌝ }
     requires sized { ⌜ SizeFits size ⌝ }
-    ensures rule { λ r. ⌜ r ≡ sound (free yard (now (cells .entry)) size) carrier ⌝ }
+    ensures rule { λ r. ⌜ r ≡ soundCarrier (free yard (now (cells .entry)) size) carrier ⌝ }
 {
     let x = carrier.x;
     let y = carrier.y;

@@ -2,7 +2,7 @@
 ghost use mathlib.Core.Path.{_≡_};
 ghost use Prim.Native.Nat.{_≤_, _<_};
 ghost use lib.IntN.{natAbs, _+ℤ_};
-ghost use Rattle.yard.specs.Levers.{on, pushOf, cut, brake, newSpeed};
+ghost use Rattle.yard.specs.Levers.{along, pushOf, cut, brake, newSpeed};
 
 pub enum Axis {
     X,
@@ -12,7 +12,7 @@ pub enum Axis {
 impl Axis {
     // The one of two numbers that is along this axis.
     pub fn pick(self, x: i32, y: i32) -> i32
-        ensures along { λ r. ⌜ r ≡ on self x y ⌝ }
+        ensures along { λ r. ⌜ r ≡ along self x y ⌝ }
     {
         match self {
             Axis::X => x,

@@ -6,14 +6,14 @@ use native.Mathlib.Omega.{arith}
 use borrow.Author.Needs.{needs}
 use borrow.Author.Tests.{not-true, not-false}
 use Rattle.basis.specs.Numbers.{stepLength}
-use Rattle.clock.specs.Clock.{isSound, due, ticked}
+use Rattle.clock.specs.Clock.{soundClock, due, ticked}
 use Rattle.clock.proofs.Sound.{sound-says}
 use Rattle.clock.proofs.Readings.{is-fault, is-backward, is-end, is-taken}
 use Rattle.clock.proofs.Clock.read.Statement.{statement}
 use Rattle.clock.proofs.Clock.read.Tie as tie
 
 -- Past the first test the clock is sound.
-passed : (d : tie.Else1) → isSound stepLength (d .before .before .args .self) ≡ true
+passed : (d : tie.Else1) → soundClock stepLength (d .before .before .args .self) ≡ true
 passed d = sym (d .before .is-sound .ensures) ∙ not-false _ (d .if1 .left)
 
 is-sound-requires : tie.Need-is-sound-requires

@@ -5,14 +5,14 @@ use mathlib.Core.Path.{_≡_, refl, sym, _∙_}
 use borrow.Author.Needs.{needs}
 use lib.ListN.{length, drop, drop-of-length-le}
 use Rattle.digest.specs.Fnv.{fnv}
-use Rattle.digest.specs.Words.{bytesOf}
+use Rattle.digest.specs.Words.{bytesOfWords}
 use Rattle.digest.proofs.Words.{one-more, bits-say}
 use Rattle.digest.proofs.Digest.words.Statement.{statement}
 use Rattle.digest.proofs.Digest.words.Tie as tie
 
 abbrev Inv-loop : tie.InvT-loop
 Inv-loop words digest₀ i₀ digest i =
-    fnv (digest₀ .value) (bytesOf words) ≡ fnv (digest .value) (bytesOf (drop i words))
+    fnv (digest₀ .value) (bytesOfWords words) ≡ fnv (digest .value) (bytesOfWords (drop i words))
 
 abbrev μ-loop : tie.MeasureT-loop
 μ-loop words digest₀ i₀ digest i = length words - i
@@ -50,7 +50,7 @@ loop-again c =
     ∙ one-more _ _ _ (shared-slice-copy-out-twos-complement (c .before .before .before)))
 
 returns : tie.Need-returns Inv-loop μ-loop
-unfolding fnv bytesOf
+unfolding fnv bytesOfWords
 returns c = sym (rw (drop-of-length-le _ (c .loop-test .left)) at (c .before .loop .inv))
 
 pub words-spec : {M : Type 1} → statement M

@@ -10,7 +10,7 @@ use Rattle.fleet.specs.State.{carrier, freeFor, soundState, worldOf}
 use Rattle.yard.proofs.Fits.{sizes-fit}
 use Rattle.yard.proofs.Every.{all-pass, one-fails}
 use Rattle.yard.proofs.Cases.{passed, failed}
-use Rattle.yard.specs.Step.{sound}
+use Rattle.yard.specs.Step.{soundCarrier}
 use Rattle.fleet.proofs.state.state_sound.Statement.{statement}
 use Rattle.fleet.proofs.state.state_sound.Tie as tie
 
@@ -18,7 +18,7 @@ abbrev Inv-loop : tie.InvT-loop
 Inv-loop yard cells boxes state b i₀ i =
     (i ≤ b)
     × ((k : ℕ) → k < i
-    → sound (freeFor (worldOf yard cells boxes) k state) (carrier k state) ≡ true)
+    → soundCarrier (freeFor (worldOf yard cells boxes) k state) (carrier k state) ≡ true)
 
 abbrev μ-loop : tie.MeasureT-loop
 μ-loop yard cells boxes state b i₀ i = b - i
@@ -29,7 +29,7 @@ tested : (c : tie.After-is-sound Inv-loop μ-loop)
     let i = c .before .before .before .before .loop .i in
     let world = worldOf (s .args .yard) (now (s .args .cells)) (now (s .args .boxes)) in
     c .is-sound .result
-    ≡ sound (freeFor world i (now (s .args .state))) (carrier i (now (s .args .state)))
+    ≡ soundCarrier (freeFor world i (now (s .args .state))) (carrier i (now (s .args .state)))
 unfolding freeFor
 tested c = c .is-sound .ensures ∙ rw (c .before .before .at .ensures, c .before .load .ensures)
 

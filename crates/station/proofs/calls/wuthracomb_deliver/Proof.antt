@@ -11,7 +11,7 @@ use Rattle.session.specs.Calls.{deliverOrder, Delivery}
 use Rattle.session.specs.Lent.{Lent, lent, Made}
 use Rattle.yard.proofs.Cases.{passed, failed}
 use Rattle.station.specs.Face.{deliverFace}
-use Rattle.station.specs.Left.{leavesDelivered, deliveredNumber, deliveredSession}
+use Rattle.station.specs.Left.{leavesDelivered}
 use Rattle.station.specs.Words.{sessionOf, wordsFit}
 use Rattle.station.proofs.Leaving.{leaves-refused, leaves-accepted}
 use Rattle.station.proofs.Sessions.{fit, fit-nine, unfit}
@@ -119,7 +119,7 @@ returns-2 c =
     let n = c .before .before in
     let d = n .before .before .before .before .before .before in
     rw (c .wide2 .ensures)
-    (leaves-refused deliveredNumber deliveredSession _ (mem (start d)) _ (given (start d))
+    (leaves-refused (λ d. d .number) (λ d. d .session) _ (mem (start d)) _ (given (start d))
     (rw (d .before .before .before .before .session-of .ensures) at (d .deliver .ensures))
     (ap deliveredOf (n .number .given .1))
     ∙ whole d)
@@ -142,7 +142,7 @@ returns-3 c =
     let n = p .before .before .before in
     let d = n .before .before .before .before .before .before in
     rw (c .wide3 .ensures)
-    (leaves-accepted deliveredNumber deliveredSession (words (start d)) (mem (start d)) _
+    (leaves-accepted (λ d. d .number) (λ d. d .session) (words (start d)) (mem (start d)) _
     (given (start d))
     (rw (d .before .before .before .before .session-of .ensures) at (d .deliver .ensures))
     (ap deliveredOf (n .s .given .1)) (p .put-session .ensures)
@@ -166,7 +166,7 @@ returns-4 c =
     let n = p .before .before .before in
     let d = n .before .before .before .before .before .before in
     rw (c .wide4 .ensures)
-    (leaves-accepted deliveredNumber deliveredSession (words (start d)) (mem (start d)) _
+    (leaves-accepted (λ d. d .number) (λ d. d .session) (words (start d)) (mem (start d)) _
     (given (start d))
     (rw (d .before .before .before .before .session-of .ensures) at (d .deliver .ensures))
     (ap deliveredOf (n .s2 .given .1)) (p .put-session2 .ensures)

@@ -2,7 +2,7 @@
 use native.Mathlib.Omega.{arith}
 use lib.ListN.{length-set}
 use denote.Ref.{now}
-use Rattle.station.specs.Words.{wordsOf}
+use Rattle.station.specs.Words.{sessionWords}
 use Rattle.station.proofs.Stores.{stores}
 use borrow.Author.Needs.{needs}
 use Rattle.station.proofs.words.put_session.Statement.{statement}
@@ -48,10 +48,10 @@ same-length : tie.Need-same-length
 same-length c = search needs
 
 returns : tie.Need-returns
-unfolding wordsOf
+unfolding sessionWords
 returns c =
     let s = c .before .before .before .before .before in
-    stores (now (s .args .words)) (wordsOf (s .args .session)) (s .pre)
+    stores (now (s .args .words)) (sessionWords (s .args .session)) (s .pre)
 
 pub put-session-spec : {M : Type 1} → statement M
 put-session-spec =

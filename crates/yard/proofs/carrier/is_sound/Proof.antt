@@ -5,7 +5,7 @@ use lib.IntN.{pos}
 use Rattle.yard.specs.declared.carrier.Carrier.{Carrier}
 use Rattle.yard.specs.Ranges.{minus, between}
 use Rattle.yard.specs.Free.{free}
-use Rattle.yard.specs.Step.{sound}
+use Rattle.yard.specs.Step.{soundCarrier}
 use Rattle.yard.proofs.Cases.{passed, failed}
 use Rattle.yard.proofs.Signed.{read, got}
 use Rattle.yard.proofs.carrier.is_sound.Statement.{statement}
@@ -42,14 +42,14 @@ is-free-requires : tie.Need-is-free-requires
 is-free-requires c κs = search needs
 
 returns : tie.Need-returns
-unfolding sound
+unfolding soundCarrier
 returns c = rw (failed (free-is (c .before)) (c .if1 .taken))
 
 is-between-requires : tie.Need-is-between-requires
 is-between-requires c κs = search needs
 
 returns-2 : tie.Need-returns-2
-unfolding sound
+unfolding soundCarrier
 returns-2 c =
     let first = c .before .before in
     rw (
@@ -61,7 +61,7 @@ is-between-requires-2 : tie.Need-is-between-requires-2
 is-between-requires-2 c κs = search needs
 
 returns-3 : tie.Need-returns-3
-unfolding sound
+unfolding soundCarrier
 returns-3 c =
     let second = c .before .before in
     let first = second .before .before in
@@ -78,7 +78,7 @@ is-between-requires-3 : tie.Need-is-between-requires-3
 is-between-requires-3 c κs = search needs
 
 returns-4 : tie.Need-returns-4
-unfolding sound
+unfolding soundCarrier
 returns-4 c =
     let third = c .before in
     let second = third .before .before in

@@ -3,7 +3,7 @@ use borrow.Author.Needs.{needs}
 use borrow.Author.Tests.{eq-eqb, ne-eqb}
 use mathlib.Core.Path.{_≡_}
 use mir.Facts.{toZ-ofZ}
-use Rattle.yard.specs.Levers.{on, pushOf, newSpeed}
+use Rattle.yard.specs.Levers.{along, pushOf, newSpeed}
 use Rattle.yard.proofs.Signed.{read, got}
 use Rattle.yard.proofs.Limits.{push-within}
 use Rattle.yard.proofs.levers.new_speed.Statement.{statement}
@@ -11,7 +11,7 @@ use Rattle.yard.proofs.levers.new_speed.Tie as tie
 
 -- The push that is picked is the table's along the axis.
 push-is : (c : tie.After-pick) → let a = c .before .before .before .before .before .args in
-    read (c .pick .result) ≡ on (a .axis) (pushOf (a .lever) .x) (pushOf (a .lever) .y)
+    read (c .pick .result) ≡ along (a .axis) (pushOf (a .lever) .x) (pushOf (a .lever) .y)
 push-is c =
     let pair = c .before .before .before .push-of in
     rw (

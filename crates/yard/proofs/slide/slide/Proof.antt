@@ -8,7 +8,7 @@ use native.Mathlib.Omega.{arith}
 use lib.IntN.{ℤ, natAbs}
 use mir.Facts.{toZ-ofZ}
 use Rattle.yard.specs.Free.{free}
-use Rattle.yard.specs.Levers.{on}
+use Rattle.yard.specs.Levers.{along}
 use Rattle.yard.specs.Slide.{toward, distance, slide}
 use Rattle.yard.proofs.Signed.{read, got}
 use Rattle.yard.proofs.Squares.{near}
@@ -22,7 +22,7 @@ module _ (s : tie.Start) where
   place = free (s .args .yard) (s .args .cells .now) (s .args .size)
 
   abbrev from : ℤ
-  from = on (s .args .axis) (s .args .x) (s .args .y)
+  from = along (s .args .axis) (s .args .x) (s .args .y)
 
   abbrev units : ℕ
   units = distance place (s .args .axis) (s .args .speed) (s .args .x) (s .args .y)
