@@ -40,8 +40,9 @@ low-bits (negsuc n) f = and-mask (2 ^ 64 - suc n) 32 ∙ omega (arith, f .sfits)
 
 -- which read as an i64 is that number itself.
 pub low-number : (word : ℤ) → SFits w32 word
-    → toZ w64 (bitAnd (ofZ w64 word) (2 ^ 32 - 1)) ≡ pos (twosComplement word)
-low-number word f = rw (low-bits word f) (toZ-pos w64 (omega (arith, bits-below word f)))
+    → toZ w64 (bitAnd (ofZ w64 (toZ w32 (ofZ w32 word))) (2 ^ 32 - 1)) ≡ pos (twosComplement word)
+low-number word f =
+    rw (toZ-ofZ f, low-bits word f) (toZ-pos w64 (omega (arith, bits-below word f)))
 
 -- The word at an index, then the words after it.
 pub one-more : (value i : ℕ) (words : List ℤ) → i < length words

@@ -6,7 +6,7 @@ use native.Mathlib.Nat.{zero-lt-suc, sub-zero, add-zero, zero-add, mul-one, one-
 use native.Mathlib.Nat.{zero-mul, add-mul, mul-pos, le-trans, mul-le-mul-left, mul-le-mul-right}
 use native.Mathlib.Omega.{arith}
 use mathlib.Core.Path.{_≡_, refl, sym, ap, _∙_}
-use mathlib.Core.Bool.{Bool, true, false, not, or-true}
+use mathlib.Core.Bool.{Bool, true, false, not, _||_, or-true}
 use lib.IntN.{ℤ, pos, negsuc, natAbs}
 use lib.Dec.{T, lit≤}
 use lib.Ieee.{Float, binary64, ofInt, round, sum, add, sub, mul, isNan}
@@ -115,6 +115,10 @@ within a b x y g G above below =
     let to = keeps binary64 x y (high b * g) (low b * g) g G below in
     rw (whole-is a g G, whole-is b g G, from, to)
 
+-- What lies from c up to p lies between them too.
+downward : (p c : ℤ) (x : Float) → isWithin c p x ≡ true → isBetween p c x ≡ true
+downward p c x e = ap (λ b. isWithin p c x || b) e ∙ or-true (isWithin p c x)
+
 -- Where at most the step is added, the sum lies between p and c.
 lies : (p c : ℤ) (t : Bool) (k : ℕ) {y : Float} → natAbs p ≤ most → Step p c t k → AtMost t k y
     → isBetween p c (add binary64 (whole p) y) ≡ true
@@ -125,7 +129,8 @@ lies p c false k h s v =
 lies p c true k h s v =
     let (b, g, G, bound, is) = added p true h v in
     let scaled = simp add-mul at (ap (λ n. n * g) s) in
-    rw (is, within c p (high p * g + 0) (low p * g + b) g G (omega arith) (omega arith), or-true)
+    rw is
+    (downward p c _ (within c p (high p * g + 0) (low p * g + b) g G (omega arith) (omega arith)))
 
 -- The shown coordinate.
 module _ (length : ℕ) (p c : ℤ) (L : 0 < length) (fits : length ≤ most)

@@ -1,9 +1,15 @@
 -- `words_fit` meets its contract.
+use Prim.Native.Nat.{ℕ}
 use borrow.Author.Tests.{eq-eqb, ne-eqb, lt-ltb, le-ltb}
+use lib.ListN.{getD}
 use Rattle.station.specs.Words.{wordsFit}
 use borrow.Author.Needs.{needs}
 use Rattle.station.proofs.words.words_fit.Statement.{statement}
 use Rattle.station.proofs.words.words_fit.Tie as tie
+
+-- Word k of those lent.
+abbrev word : tie.Start → ℕ → ℕ
+word s k = getD (s .args .words .now) k 0
 
 returns : tie.Need-returns
 unfolding wordsFit
@@ -16,7 +22,7 @@ returns-2 : tie.Need-returns-2
 unfolding wordsFit
 returns-2 c =
     let one = c .before .before in
-    rw (eq-eqb _ _ (one .if1 .left), le-ltb _ _ (c .if2 .taken))
+    rw (eq-eqb _ _ (one .if1 .left), le-ltb (word (one .before) 0) _ (c .if2 .taken))
 
 shared-slice-read-if3 : tie.Need-shared-slice-read-if3
 shared-slice-read-if3 c = search needs
@@ -26,7 +32,11 @@ unfolding wordsFit
 returns-3 c =
     let two = c .before .before in
     let one = two .before .before in
-    rw (eq-eqb _ _ (one .if1 .left), lt-ltb _ _ (two .if2 .left), le-ltb _ _ (c .if3 .taken))
+    rw (
+      eq-eqb _ _ (one .if1 .left),
+      lt-ltb (word (one .before) 0) _ (two .if2 .left),
+      le-ltb (word (one .before) 1) _ (c .if3 .taken),
+    )
 
 shared-slice-read-result : tie.Need-shared-slice-read-result
 shared-slice-read-result c = search needs
@@ -39,8 +49,8 @@ returns-4 c =
     let one = two .before .before in
     rw (
       eq-eqb _ _ (one .if1 .left),
-      lt-ltb _ _ (two .if2 .left),
-      lt-ltb _ _ (three .if3 .left),
+      lt-ltb (word (one .before) 0) _ (two .if2 .left),
+      lt-ltb (word (one .before) 1) _ (three .if3 .left),
     )
 
 pub words-fit-spec : {M : Type 1} → statement M

@@ -1,7 +1,10 @@
 -- `is_sound` meets its contract: each test in turn.
 use borrow.Author.Needs.{needs}
-use mathlib.Core.Path.{_≡_}
-use lib.IntN.{pos}
+use Prim.Native.Nat.{_<_, _^_}
+use mathlib.Core.Path.{_≡_, ap, _∙_}
+use mathlib.Core.Bool.{Bool}
+use lib.IntN.{ℤ, pos}
+use lib.Signed.{mag}
 use Rattle.yard.specs.declared.carrier.Carrier.{Carrier}
 use Rattle.yard.specs.Ranges.{minus, between}
 use Rattle.yard.specs.Free.{free}
@@ -18,6 +21,11 @@ entry c = c .before .before .before .before .before .before
 abbrev the : tie.After-struct-told5 → Carrier
 the c = entry c .args .carrier
 
+-- The test of a speed, of which the machine has its reading.
+speed-is : (z : ℤ) {r : Bool} → mag z < 2 ^ 31 → r ≡ between (minus 200) (read z) (pos 200)
+    → r ≡ between (minus 200) z (pos 200)
+speed-is z h e = e ∙ ap (λ s. between (minus 200) s (pos 200)) (got z h)
+
 -- What each call says.
 free-is : (c : tie.After-is-free) → let a = entry (c .before) .args in
     c .is-free .result ≡ free (a .yard) (a .cells .now) (a .size) (a .carrier .x) (a .carrier .y)
@@ -27,13 +35,13 @@ free-is c =
 
 u-is : (c : tie.After-is-between) →
     c .is-between .result ≡ between (minus 200) (the (c .before .before .before) .u) (pos 200)
-u-is c = rw (c .is-between .ensures, got (the (c .before .before .before) .u) (search needs))
+u-is c = speed-is (the (c .before .before .before) .u) (search needs) (c .is-between .ensures)
 
 v-is : (c : tie.After-is-between2) → let w = the (c .before .before .before .before .before) in
     c .is-between2 .result ≡ between (minus 200) (w .v) (pos 200)
 v-is c =
     let w = the (c .before .before .before .before .before) in
-    rw (c .is-between2 .ensures, got (w .v) (search needs))
+    speed-is (w .v) (search needs) (c .is-between2 .ensures)
 
 lever-read : (c : tie.After-struct-told5) → read (the c .lever) ≡ the c .lever
 lever-read c = got (the c .lever) (search needs)

@@ -1,16 +1,27 @@
 -- `ranges_hold` meets its contract: each range in turn.
 use borrow.Author.Needs.{needs}
+use mathlib.Core.Path.{_≡_}
+use Rattle.yard.specs.Ranges.{fromOne}
 use Rattle.yard.specs.Rule9.{rangesHold}
 use Rattle.yard.proofs.Cases.{passed, failed}
 use Rattle.yard.proofs.rule9.ranges_hold.Statement.{statement}
 use Rattle.yard.proofs.rule9.ranges_hold.Tie as tie
+
+-- What each test says.
+w-is : (c : tie.After-is-from-one) →
+    c .is-from-one .result ≡ fromOne (c .before .args .yard .w) 64
+w-is c = c .is-from-one .ensures
+
+h-is : (c : tie.After-is-from-one2) →
+    c .is-from-one2 .result ≡ fromOne (c .before .before .before .args .yard .h) 64
+h-is c = c .is-from-one2 .ensures
 
 is-from-one-requires : tie.Need-is-from-one-requires
 is-from-one-requires c κs = search needs
 
 returns : tie.Need-returns
 unfolding rangesHold
-returns c = rw (failed (c .before .is-from-one .ensures) (c .if1 .taken))
+returns c = rw (failed (w-is (c .before)) (c .if1 .taken))
 
 is-from-one-requires-2 : tie.Need-is-from-one-requires-2
 is-from-one-requires-2 c κs = search needs
@@ -20,8 +31,8 @@ unfolding rangesHold
 returns-2 c =
     let first = c .before .before in
     rw (
-      passed (first .before .is-from-one .ensures) (first .if1 .left),
-      failed (c .before .is-from-one2 .ensures) (c .if2 .taken),
+      passed (w-is (first .before)) (first .if1 .left),
+      failed (h-is (c .before)) (c .if2 .taken),
     )
 
 is-from-one-requires-3 : tie.Need-is-from-one-requires-3
@@ -33,8 +44,8 @@ returns-3 c =
     let second = c .before in
     let first = second .before .before in
     rw (
-      passed (first .before .is-from-one .ensures) (first .if1 .left),
-      passed (second .before .is-from-one2 .ensures) (second .if2 .left),
+      passed (w-is (first .before)) (first .if1 .left),
+      passed (h-is (second .before)) (second .if2 .left),
       c .is-from-one3 .ensures,
     )
 
