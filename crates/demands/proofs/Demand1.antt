@@ -22,7 +22,7 @@ use Rattle.session.specs.Lent.{Lent, made, Made, leaves}
 use Rattle.session.specs.Calls.{taken, held}
 use Rattle.session.specs.Answers.{runningOf, deliveredOf, digestedOf, replayLeft, replay}
 use Rattle.session.proofs.Deliveries.{at-place, bytes-read}
-use Rattle.demands.specs.Statements.{Determined, ExactlyWhen}
+use Rattle.demands.specs.Statements.{OneOutcome, FirstFails, Determined, ExactlyWhen}
 
 -- No two answers of the code stand for one answer.
 running-one : (a b : Running) → runningOf a ≡ runningOf b → a ≡ b
@@ -59,31 +59,19 @@ digested-one (digested.Value v) (digested.Refused n) e = apart (sym e)
 digested-one (digested.Refused m) (digested.Value w) e = apart e
 digested-one (digested.Refused m) (digested.Refused n) e = cc
 
--- What two equal outcomes have in common.
-module _ {A : Type 0} {a b : Answer A} {state state′ rows rows′ : List ℤ} {log log′ : List ℕ}
-    (what : Made (Answer A)) (e : made a state rows log ≡ what)
-    (f : made b state′ rows′ log′ ≡ what) where
-  one-answer : a ≡ b
-  one-answer = ap (λ l. l .result) (e ∙ sym f)
-
-  one-state : state ≡ state′
-  one-state = ap (λ l. l .state) (e ∙ sym f)
-
-  one-rows : rows ≡ rows′
-  one-rows = ap (λ l. l .rows) (e ∙ sym f)
-
-  one-log : log ≡ log′
-  one-log = ap (λ l. l .log) (e ∙ sym f)
+one-outcome : {A C : Type 0} (answerOf : C → Answer A)
+    → ((a b : C) → answerOf a ≡ answerOf b → a ≡ b) → (this : Made (Answer A))
+    → OneOutcome answerOf this
+one-outcome answerOf one this a b s t r q f g x y =
+    let e = x ∙ sym y in
+    (one a b (ap (λ l. l .result) e), ap (λ l. l .state) e, ap (λ l. l .rows) e, ap (λ l. l .log) e)
 
 pub determined : Determined
 determined =
     record {
-      opening = λ yard reading l a b s t r q f g x y.
-          (running-one a b (one-answer _ x y), one-state _ x y, one-rows _ x y, one-log _ x y);
-      reading = λ session t l a b s u r q x y.
-          (running-one a b (one-answer _ x y), one-state _ x y, one-rows _ x y);
-      deliver = λ session bytes l a b s t r q f g x y.
-          (delivered-one a b (one-answer _ x y), one-state _ x y, one-rows _ x y, one-log _ x y);
+      opening = λ yard reading l. one-outcome runningOf running-one _;
+      reading = λ session t l. one-outcome runningOf running-one _;
+      deliver = λ session bytes l. one-outcome deliveredOf delivered-one _;
       replay = λ yard steps cells boxes before log a b s t x y.
           (ap (λ l. l .answer) (x ∙ sym y), ap (λ l. l .state) (x ∙ sym y));
       digest = λ session l a b x y. digested-one a b (x ∙ sym y);
@@ -91,8 +79,7 @@ determined =
     }
 
 -- A refusal leaves its number and all as it was.
-refused-left : {A : Type 0} (l : Lent) (order : Order (Made A)) (n : ℕ)
-    → (leaves l (answer order) ≡ made (refused n) (l .state) (l .rows) (l .log)) ↔ First n order
+refused-left : {A : Type 0} (l : Lent) (order : Order (Made A)) → FirstFails l order
 refused-left {A} l order n = (
   λ e. exactly-number order n .0 (go (answer order) e),
   λ f. ap (leaves l) (exactly-number order n .1 f),

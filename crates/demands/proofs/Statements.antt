@@ -3,6 +3,7 @@ use Prim.Native.Nat.{ℕ}
 use mathlib.Core.Path.{_≡_, refl, subst}
 use mathlib.Core.List.{List}
 use mathlib.Core.Bool.{true}
+use native.Mathlib.Omega.{arith}
 use borrow.Author.Tests.{eq-eqb}
 use lib.IntN.{pos}
 use lib.ListN.{replicate, length-replicate}
@@ -17,14 +18,16 @@ use Rattle.yard.specs.Free.{wall, share, covers, noWall, free}
 use Rattle.yard.specs.Ranges.{between, every}
 use Rattle.yard.specs.Rule9.{rangesHold, cellsHold, sizeHolds, sizesHold, startHolds, startsHold}
 use Rattle.yard.specs.World.{sizeOf}
-use Rattle.fleet.specs.State.{World}
+use Rattle.fleet.specs.State.{World, startState}
 use Rattle.fleet.specs.Examples.{practice}
+use Rattle.fleet.proofs.Joined.{same-run}
 use Rattle.session.specs.Lent.{Lent, lent}
 use Rattle.session.specs.Sound.{worldRoom, room}
 use Rattle.session.specs.Calls.{worldOrder}
 use Rattle.session.proofs.Openings.{open-gives}
 use Rattle.course.specs.Calls.{Call}
 use Rattle.course.proofs.Statements.{course}
+use Rattle.course.proofs.Levers.{earlier-lever}
 use Rattle.demands.specs.Handed.{Handed, Reached}
 use Rattle.demands.specs.Statements.{Demand2, Time, SomeWorldOpens, Lettered, Demands}
 use Rattle.demands.proofs.Model.{model, lawful}
@@ -42,8 +45,9 @@ module _ (world : World) (first : ℕ) (calls : List Call) (h : Handed)
   time : Time first calls h
   time =
       let m = modelled r in
+      let history = course .fromHistory (model world) (lawful world (m .opens)) first calls in
       subst (Time first calls) (m .words)
-      (course .fromHistory (model world) (lawful world (m .opens)) first calls .time)
+      (record { clock = history .clock; opening = history .time })
 
 -- Buffers of the right lengths, whatever they hold.
 abbrev blank : Lent
@@ -101,6 +105,9 @@ demands =
       exactlyWhen = exactlyWhen;
       demand2 = second;
       time = time;
+      later = λ world n records.
+          same-run world _ _ 0 n (startState world)
+          (λ s i a b c. earlier-lever s i n records (omega (arith, b)));
       demand3 = demand3;
       met = met;
       lettered = lettered;

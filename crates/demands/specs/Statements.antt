@@ -8,21 +8,21 @@ use mathlib.Core.List.{List, [], _∷_, List·Memᴰ}
 use lib.IntN.{ℤ, pos}
 use lib.ListN.{length, take, replicate}
 use Rattle.basis.specs.Numbers.{FAULT, stepLength, mostRecords, rowCount}
-use Rattle.basis.specs.Order.{refused, accepted, Order, answer, First}
+use Rattle.basis.specs.Order.{Answer, refused, accepted, Order, answer, First}
 use Rattle.record.specs.Bytes.{recordOf, readOrder}
 use Rattle.record.specs.Log.{ascending}
 use Rattle.record.specs.Held.{bufferOf}
 use Rattle.record.specs.Place.{AtPlace}
+use Rattle.record.specs.Part.{earlier}
 use Rattle.record.specs.Examples.{ExampleL}
 use Rattle.record.specs.declared.bytes.Record.{Record}
-use Rattle.clock.specs.History.{acceptedAfter, lastOf, NoneRefused, NoLongGap}
+use Rattle.clock.specs.History.{clockAfter, acceptedAfter, lastOf, NoneRefused, NoLongGap}
 use Rattle.clock.specs.Statements.{FromOpening}
 use Rattle.clock.specs.Examples.{ExampleA, ExampleB, ExampleC, ExampleD}
 use Rattle.digest.specs.Fnv.{digestOf}
 use Rattle.digest.specs.Words.{stateBytes}
 use Rattle.shown.specs.Answer.{shownPlace, answerOf}
 use Rattle.shown.specs.declared.Place.{Place}
-use Rattle.shown.specs.declared.Shown.{Shown}
 use Rattle.yard.specs.Examples.{ExampleE, ExampleF, ExampleG, ExampleH, ExampleI, ExampleJ}
 use Rattle.yard.specs.Examples.{ExampleK}
 use Rattle.yard.specs.declared.world.Yard.{Yard}
@@ -32,12 +32,9 @@ use Rattle.fleet.specs.Run.{rowOf}
 use Rattle.fleet.specs.Examples.{practice}
 use Rattle.course.specs.Calls.{Call, delivery, readingsOf}
 use Rattle.session.specs.declared.Session.{Session}
-use Rattle.session.specs.declared.Running.{Running}
-use Rattle.session.specs.declared.Delivered.{Delivered}
 use Rattle.session.specs.declared.Replayed.{Replayed}
 use Rattle.session.specs.declared.Replayed.the-variants as replayed
-use Rattle.session.specs.declared.Digested.{Digested}
-use Rattle.session.specs.Lent.{Lent, made, leaves}
+use Rattle.session.specs.Lent.{Lent, Made, made, leaves}
 use Rattle.session.specs.Sound.{sound}
 use Rattle.session.specs.Calls.{openOrder, readingOrder, deliverOrder, replayOrder, digestOrder}
 use Rattle.session.specs.Calls.{shownOrder, taken, held, foundIn, unchanged, takeIn}
@@ -45,27 +42,29 @@ use Rattle.session.specs.Answers.{runningOf, deliveredOf, digestedOf, replayLef
 use Rattle.demands.specs.Handed.{Handed, lentIn, deliveryLeaves, next, afterCalls, Opened}
 use Rattle.demands.specs.Handed.{Reached, stepsMade, heldBy, moved}
 
--- 'any two outcomes allowed by it coincide': two outcomes of an entry, each as its contract has it.
--- A lent slice that an entry can't write is no part of its outcome.
+-- Any two outcomes of which a contract says that they come to this are the same: the answer, and
+-- what the call leaves in the buffers that it may change.
+abbrev pub OneOutcome : {A C : Type 0} → (C → Answer A) → Made (Answer A) → Type 0
+OneOutcome {A} {C} answerOf this =
+    (a b : C) (state state′ rows rows′ : List ℤ) (log log′ : List ℕ)
+    → made (answerOf a) state rows log ≡ this → made (answerOf b) state′ rows′ log′ ≡ this
+    → (a ≡ b) × (state ≡ state′) × (rows ≡ rows′) × (log ≡ log′)
+
+-- The same of a call that changes no buffer.
+abbrev pub OneAnswer : {A C : Type 0} → (C → Answer A) → Answer A → Type 0
+OneAnswer {A} {C} answerOf this = (a b : C) → answerOf a ≡ this → answerOf b ≡ this → a ≡ b
+
+-- 'any two outcomes allowed by it coincide', for the contract of each public entry.
 pub record Determined : Type 0 where
   -- `Session::open`
-  pub opening : (yard : Yard) (reading : ℕ) (l : Lent) (a b : Running)
-      (state state′ rows rows′ : List ℤ) (log log′ : List ℕ)
-      → made (runningOf a) state rows log ≡ leaves l (answer (openOrder yard reading l))
-      → made (runningOf b) state′ rows′ log′ ≡ leaves l (answer (openOrder yard reading l))
-      → (a ≡ b) × (state ≡ state′) × (rows ≡ rows′) × (log ≡ log′)
+  pub opening : (yard : Yard) (reading : ℕ) (l : Lent)
+      → OneOutcome runningOf (leaves l (answer (openOrder yard reading l)))
   -- `Session::reading`
-  pub reading : (session : Session) (t : ℕ) (l : Lent) (a b : Running)
-      (state state′ rows rows′ : List ℤ)
-      → made (runningOf a) state rows (l .log) ≡ leaves l (answer (readingOrder session l t))
-      → made (runningOf b) state′ rows′ (l .log) ≡ leaves l (answer (readingOrder session l t))
-      → (a ≡ b) × (state ≡ state′) × (rows ≡ rows′)
+  pub reading : (session : Session) (t : ℕ) (l : Lent)
+      → OneOutcome runningOf (leaves l (answer (readingOrder session l t)))
   -- `Session::deliver`
-  pub deliver : (session : Session) (bytes : List ℕ) (l : Lent) (a b : Delivered)
-      (state state′ rows rows′ : List ℤ) (log log′ : List ℕ)
-      → made (deliveredOf a) state rows log ≡ leaves l (answer (deliverOrder session l bytes))
-      → made (deliveredOf b) state′ rows′ log′ ≡ leaves l (answer (deliverOrder session l bytes))
-      → (a ≡ b) × (state ≡ state′) × (rows ≡ rows′) × (log ≡ log′)
+  pub deliver : (session : Session) (bytes : List ℕ) (l : Lent)
+      → OneOutcome deliveredOf (leaves l (answer (deliverOrder session l bytes)))
   -- `replay`
   pub replay : (yard : Yard) (steps : ℕ) (cells : List ℕ) (boxes before : List ℤ) (log : List ℕ)
       (a b : Replayed) (state state′ : List ℤ)
@@ -73,44 +72,44 @@ pub record Determined : Type 0 where
       → replayLeft b state′ ≡ replay before (answer (replayOrder yard steps cells boxes before log))
       → (a ≡ b) × (state ≡ state′)
   -- `digest`
-  pub digest : (session : Session) (l : Lent) (a b : Digested)
-      → digestedOf a ≡ answer (digestOrder session l)
-      → digestedOf b ≡ answer (digestOrder session l)
-      → a ≡ b
+  pub digest : (session : Session) (l : Lent)
+      → OneAnswer digestedOf (answer (digestOrder session l))
   -- `shown`
-  pub shown : (session : Session) (i : ℕ) (l : Lent) (a b : Shown)
-      → answerOf a ≡ answer (shownOrder session l i)
-      → answerOf b ≡ answer (shownOrder session l i)
-      → a ≡ b
+  pub shown : (session : Session) (i : ℕ) (l : Lent)
+      → OneAnswer answerOf (answer (shownOrder session l i))
 
--- 'each given exactly when its rule says, and a refusal changes no session and no buffer': of each
--- entry, a number comes back, and all is as it was, if and only if a test with this number is the
--- first of document 01's order that fails.
+-- A number comes back, and all is as it was, if and only if a test with this number is the first of
+-- the order that fails.
+abbrev pub FirstFails : {A : Type 0} → Lent → Order (Made A) → Type 0
+FirstFails l order =
+    (n : ℕ)
+    → (leaves l (answer order) ≡ made (refused n) (l .state) (l .rows) (l .log)) ↔ First n order
+
+-- 'each given exactly when its rule says, and a refusal changes no session and no buffer', by
+-- document 01's order of each entry.
 pub record ExactlyWhen : Type 0 where
-  pub opening : (yard : Yard) (reading : ℕ) (l : Lent) (n : ℕ)
-      → (leaves l (answer (openOrder yard reading l))
-      ≡ made (refused n) (l .state) (l .rows) (l .log))
-      ↔ First n (openOrder yard reading l)
-  pub reading : (session : Session) (t : ℕ) (l : Lent) (n : ℕ)
-      → (leaves l (answer (readingOrder session l t))
-      ≡ made (refused n) (l .state) (l .rows) (l .log))
-      ↔ First n (readingOrder session l t)
-  pub deliver : (session : Session) (bytes : List ℕ) (l : Lent) (n : ℕ)
-      → (leaves l (answer (deliverOrder session l bytes))
-      ≡ made (refused n) (l .state) (l .rows) (l .log))
-      ↔ First n (deliverOrder session l bytes)
-  -- The same of a delivery by its record, and of 0 and 1.
+  -- 'Opening: ranges of W, H, B (9); lengths (10); cells, sizes, starts (9).'
+  pub opening : (yard : Yard) (reading : ℕ) (l : Lent) → FirstFails l (openOrder yard reading l)
+  -- 'Reading: 14, 11, 12.'
+  pub reading : (session : Session) (t : ℕ) (l : Lent) → FirstFails l (readingOrder session l t)
+  -- 'Delivery: 14, 2, 3, 4, 5, then 1 or 6, then 7, 8, and last 14 for the row to be brought back.'
+  pub deliver : (session : Session) (bytes : List ℕ) (l : Lent)
+      → FirstFails l (deliverOrder session l bytes)
+  -- The same of a delivery by its record's place, number by number, 0 and 1 too.
   pub place : (session : Session) (bytes : List ℕ) (l : Lent) (r : Record)
       → sound session l ≡ true → answer (readOrder (session .yard .b) bytes) ≡ accepted r
       → AtPlace r (foundIn session l r) (unchanged session l) (takeIn session l r)
       (answer (deliverOrder session l bytes))
+  -- 'Replay: opening's order without rows .., then 13, then 5.'
   pub replay : (yard : Yard) (steps : ℕ) (cells : List ℕ) (boxes state : List ℤ) (log : List ℕ)
       (n : ℕ)
       → (replay state (answer (replayOrder yard steps cells boxes state log))
       ≡ replayLeft (replayed.Refused n) state)
       ↔ First n (replayOrder yard steps cells boxes state log)
+  -- The digest: 'Unsound: 14.'
   pub digest : (session : Session) (l : Lent) (n : ℕ)
       → (answer (digestOrder session l) ≡ refused n) ↔ First n (digestOrder session l)
+  -- The shown place: 'Order: 14, 3, then 14 for the row.'
   pub shown : (session : Session) (i : ℕ) (l : Lent) (n : ℕ)
       → (answer (shownOrder session l i) ≡ refused n) ↔ First n (shownOrder session l i)
 
@@ -154,12 +153,13 @@ pub record Demand2 (world : World) (h : Handed) : Type 0 where
   pub delivers : (bytes : List ℕ)
       → answer (deliverOrder (h .result) (lentIn world h) bytes) ≢ refused FAULT
 
--- 'From opening on', of a session as in demand 3: the time equation, and the cut time 'from the
--- history of accepted readings'.
-abbrev pub Time : ℕ → List Call → Handed → Type 0
-Time first calls h =
-    FromOpening stepLength first (acceptedAfter stepLength first (readingsOf calls))
-    (h .result .clock)
+-- 'From opening on', of a session as in demand 3.
+pub record Time (first : ℕ) (calls : List Call) (h : Handed) : Type 0 where
+  -- Its clock is that of the readings among the calls;
+  pub clock : h .result .clock ≡ clockAfter stepLength first (readingsOf calls)
+  -- the time equation, and the cut time 'from the history of accepted readings'.
+  pub opening : FromOpening stepLength first (acceptedAfter stepLength first (readingsOf calls))
+      (h .result .clock)
 
 -- These bytes are answered TAKEN.
 pub record Taken (world : World) (h : Handed) (bytes : List ℕ) : Type 0 where
@@ -255,6 +255,9 @@ pub record Demands : Type 0 where
       → Reached world first calls h → Demand2 world h
   pub time : (world : World) (first : ℕ) (calls : List Call) (h : Handed)
       → Reached world first calls h → Time first calls h
+  -- 'records for step n or later .. move nothing'
+  pub later : (world : World) (n : ℕ) (records : List Record)
+      → moved world n (earlier n records) ≡ moved world n records
   pub demand3 : (world : World) → Demand3 world
   pub met : SomeWorldOpens
   -- 'Examples to hold against it'

@@ -75,7 +75,8 @@ module _ {A : Type 0} (number-of : A → ℕ) (session-of : A → Session) (word
   leaves-refused q =
       sym (ap (λ x. left (answer-number x) state rows log (answer-words x)) q) ∙ leaving
 
-  pub leaves-accepted : {x : A} {after : List ℕ} → a ≡ accepted x → after ≡ sessionWords (session-of x)
+  pub leaves-accepted : {x : A} {after : List ℕ} → a ≡ accepted x
+      → after ≡ sessionWords (session-of x)
       → left (number-of x) state rows log after ≡ leaves number-of session-of l words b
   unfolding answer-number answer-words
   leaves-accepted {x} q put =
