@@ -12,8 +12,7 @@ use Rattle.basis.proofs.Tests.{and-both}
 use Rattle.record.specs.Held.{bufferSize}
 use Rattle.record.proofs.Examples.{exampleL}
 use Rattle.clock.proofs.Examples.{exampleA, exampleB, exampleC, exampleD}
-use Rattle.yard.proofs.Examples.{exampleE, exampleF, exampleG, exampleH, exampleI, exampleJ}
-use Rattle.yard.proofs.Examples.{exampleK}
+use Rattle.yard.proofs.Examples.{examples}
 use Rattle.yard.specs.Free.{wall, share, covers, noWall, free}
 use Rattle.yard.specs.Ranges.{between, every}
 use Rattle.yard.specs.Rule9.{rangesHold, cellsHold, sizeHolds, sizesHold, startHolds, startsHold}
@@ -88,13 +87,13 @@ lettered =
       b = exampleB;
       c = exampleC;
       d = exampleD;
-      e = exampleE;
-      f = exampleF;
-      g = exampleG;
-      h = exampleH;
-      i = exampleI;
-      j = exampleJ;
-      k = exampleK;
+      e = examples .0;
+      f = examples .1;
+      g = examples .2;
+      h = examples .3;
+      i = examples .4;
+      j = examples .5;
+      k = examples .6;
       l = exampleL;
     }
 
