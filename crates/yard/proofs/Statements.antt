@@ -12,7 +12,12 @@ pub free : Free
 free = record { means = reading; left = left; above = above; near = near }
 
 pub determined : Determined
-determined = record { ranges = λ yard p q. p ∙ sym q; cells = λ cells p q. p ∙ sym q }
+determined =
+    record {
+      ranges = λ yard p q. p ∙ sym q;
+      cells = λ cells p q. p ∙ sym q;
+      magnitude = λ z p q. p ∙ sym q;
+    }
 
 pub rule9 : Rule9
 rule9 = record { ranges = ranges; cells = cells; sizes = sizes; starts = starts }

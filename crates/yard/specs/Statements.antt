@@ -51,6 +51,8 @@ pub record Determined : Type 0 where
   pub ranges : (yard : Yard) {a b : Bool} → a ≡ rangesHold yard → b ≡ rangesHold yard → a ≡ b
   -- `cells_hold`
   pub cells : (cells : List ℕ) {a b : Bool} → a ≡ cellsHold cells → b ≡ cellsHold cells → a ≡ b
+  -- `magnitude`
+  pub magnitude : (z : ℤ) {a b : ℕ} → a ≡ natAbs z → b ≡ natAbs z → a ≡ b
 
 -- A word from low to high, ends allowed, where low is at least 0.
 abbrev pub FromTo : ℕ → ℕ → ℤ → Type 0
