@@ -18,7 +18,7 @@ pub record World : Type 0 where
   pub cells : List ℕ
   pub boxes : List ℤ
 
--- The three, as one.
+-- W, H and B, the cells, and the carriers' words, as one.
 abbrev pub worldOf : Yard → List ℕ → List ℤ → World
 worldOf yard cells boxes = record { yard = yard; cells = cells; boxes = boxes }
 

@@ -16,7 +16,7 @@ pub record Lent : Type 0 where
   pub rows : List ℤ
   pub log : List ℕ
 
--- They, as one.
+-- The five slices, as one.
 abbrev pub lent : List ℕ → List ℤ → List ℤ → List ℤ → List ℕ → Lent
 lent cells boxes state rows log =
     record { cells = cells; boxes = boxes; state = state; rows = rows; log = log }
@@ -36,7 +36,7 @@ pub record Made (A : Type 0) : Type 0 where
   pub rows : List ℤ
   pub log : List ℕ
 
--- The same, as one.
+-- The result and the three buffers, as one.
 abbrev pub made : {A : Type 0} → A → List ℤ → List ℤ → List ℕ → Made A
 made result state rows log = record { result = result; state = state; rows = rows; log = log }
 
