@@ -31,6 +31,7 @@ use Rattle.demands.proofs.Model.{model, lawful}
 use Rattle.demands.proofs.Sessions.{modelled}
 use Rattle.demands.proofs.Demand1.{determined, exactlyWhen}
 use Rattle.demands.proofs.Demand2.{demand2}
+use Rattle.demands.proofs.Shown.{shown}
 use Rattle.demands.proofs.Demand3.{demand3}
 
 module _ (world : World) (first : ℕ) (calls : List Call) (h : Handed)
@@ -101,6 +102,7 @@ demands =
       exactlyWhen = exactlyWhen;
       demand2 = second;
       time = time;
+      shown = shown;
       demand3 = demand3;
       met = met;
       lettered = lettered;
