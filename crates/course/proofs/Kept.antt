@@ -18,6 +18,7 @@ use Rattle.record.specs.declared.bytes.Record.{Record}
 use Rattle.record.proofs.OneRecord.{Within}
 use Rattle.record.proofs.Climbs.{Climbs, done}
 use Rattle.record.proofs.Levers.{lever-by}
+use Rattle.record.proofs.Members.{lever-held, within-held}
 use Rattle.record.proofs.Logs.{AllWithin}
 use Rattle.record.proofs.Logs.{done as none-more}
 use Rattle.record.proofs.Insertion.{length-putIn, within-putIn, climbs-putIn}
@@ -33,7 +34,6 @@ use Rattle.course.specs.Session.{Session, Made, opening, rowOf, goBack, 
 use Rattle.course.specs.Calls.{Call, reading, delivery, readOn, takeIn, foundIn}
 use Rattle.course.specs.Calls.{answerTo, next, run, Reached}
 use Rattle.course.proofs.Levers.{At, put-other}
-use Rattle.course.proofs.Records.{lever-held, within-held}
 use Rattle.course.proofs.Rows.{Agree, agree-below, madeAfter, after-agree, made-agree}
 use Rattle.course.proofs.Rows.{row-saved, steps-on, back-is}
 use Rattle.course.proofs.Calls.{Takes, PlacedAs, told-at, byClock, is-unread, is-read}

@@ -1,6 +1,6 @@
 -- Laws of the model, for the crates above.
 --   Levers      the lever held at a place after a record is put in
---   Records     the records held, as members and by the levers at their places
+--   Records     the levers held at its places decide a log, and so do its records
 --   Rows        steps made and made again: the state, and the saved rows
 --   Calls       each answer with what its tests said, and what a call leaves
 --   Kept        what every session as in demand 3 keeps

@@ -13,6 +13,7 @@ use Rattle.record.specs.declared.bytes.Record.{Record}
 use Rattle.record.proofs.OneRecord.{within-limits}
 use Rattle.record.proofs.Climbs.{ascends}
 use Rattle.record.proofs.Logs.{recordsOf-log, log-sound}
+use Rattle.record.proofs.Members.{held-lever, lever-held, within-held}
 use Rattle.record.proofs.Placing.{at-place}
 use Rattle.record.proofs.Placing as placing
 use Rattle.clock.proofs.Sound.{is-sound}
@@ -24,7 +25,7 @@ use Rattle.course.specs.Calls.{foundIn, Holds}
 use Rattle.course.specs.Statements.{Demand2, Replay, FromHistory, Same, Demand3, Reach}
 use Rattle.course.specs.Statements.{ExactlyWhen, OnEveryWorld}
 use Rattle.course.proofs.Levers.{earlier-lever}
-use Rattle.course.proofs.Records.{same-at, same-log, held-lever, lever-held, within-held}
+use Rattle.course.proofs.Records.{same-at, same-log}
 use Rattle.course.proofs.Rows.{after-agree, length-rows, row-saved, row-blank}
 use Rattle.course.proofs.Calls.{heldAt, answerAt, PlacedAs, told-at, is-held-at, leaves}
 use Rattle.course.proofs.Calls.{is-unread, is-read, is-malformed, is-placed, took-says}

@@ -4,6 +4,7 @@
 --   Sessions    every session as in demand 3 has the words of one of the model
 --   Demand1     each contract allows one outcome, and gives each number exactly when
 --   Demand2     the state, its rows, its log, its digest, its replay
+--   Shown       the shown place of any session lies between previous and present place
 --   Demand3     two sessions of one world
 --   Statements  the statements of specs/Statements.antt
 pub mod Model
@@ -11,5 +12,6 @@ pub mod Ties
 pub mod Sessions
 pub mod Demand1
 pub mod Demand2
+pub mod Shown
 pub mod Demand3
 pub mod Statements

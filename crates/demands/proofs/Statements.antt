@@ -33,6 +33,7 @@ use Rattle.demands.proofs.Model.{model, lawful}
 use Rattle.demands.proofs.Sessions.{modelled}
 use Rattle.demands.proofs.Demand1.{determined, exactlyWhen}
 use Rattle.demands.proofs.Demand2.{demand2}
+use Rattle.demands.proofs.Shown.{shown}
 use Rattle.demands.proofs.Demand3.{demand3}
 
 module _ (world : World) (first : ℕ) (calls : List Call) (h : Handed)
@@ -107,6 +108,7 @@ demands =
       later = λ world n records.
           same-run world _ _ 0 n (startState world)
           (λ s i a b c. earlier-lever s i n records (omega (arith, b)));
+      shown = shown;
       demand3 = demand3;
       met = met;
       lettered = lettered;

@@ -5,6 +5,7 @@ use mathlib.Core.Path.{_≡_}
 use mathlib.Core.Logic.{_↔_, _≢_}
 use mathlib.Core.Bool.{true, false}
 use mathlib.Core.List.{List, [], _∷_, List·Memᴰ}
+use lib.Ieee.{Float}
 use lib.IntN.{ℤ, pos}
 use lib.ListN.{length, take, replicate}
 use Rattle.basis.specs.Numbers.{FAULT, stepLength, mostRecords, rowCount}
@@ -21,6 +22,7 @@ use Rattle.clock.specs.Statements.{FromOpening}
 use Rattle.clock.specs.Examples.{ExampleA, ExampleB, ExampleC, ExampleD}
 use Rattle.digest.specs.Fnv.{digestOf}
 use Rattle.digest.specs.Words.{stateBytes}
+use Rattle.shown.specs.Blend.{whole, isBetween}
 use Rattle.shown.specs.Answer.{shownPlace, answerOf}
 use Rattle.shown.specs.declared.Place.{Place}
 use Rattle.yard.specs.Examples.{ExampleE, ExampleF, ExampleG, ExampleH, ExampleI, ExampleJ}
@@ -37,7 +39,7 @@ use Rattle.session.specs.declared.Replayed.the-variants as replayed
 use Rattle.session.specs.Lent.{Lent, Made, made, leaves}
 use Rattle.session.specs.Sound.{sound}
 use Rattle.session.specs.Calls.{openOrder, readingOrder, deliverOrder, replayOrder, digestOrder}
-use Rattle.session.specs.Calls.{shownOrder, taken, held, foundIn, unchanged, takeIn}
+use Rattle.session.specs.Calls.{shownOrder, previous, taken, held, foundIn, unchanged, takeIn}
 use Rattle.session.specs.Answers.{runningOf, deliveredOf, digestedOf, replayLeft, replay}
 use Rattle.demands.specs.Handed.{Handed, lentIn, deliveryLeaves, next, afterCalls, Opened}
 use Rattle.demands.specs.Handed.{Reached, stepsMade, heldBy, moved}
@@ -214,6 +216,23 @@ pub record Demand3 (world : World) : Type 0 where
       → (stepsMade h ≡ stepsMade k)
       × (h .result .clock .remainder ≡ k .result .clock .remainder)
 
+-- 'It lies between p and c, ends allowed; it equals p when the remainder is 0 or p equals c'.
+pub record Between (remainder : ℕ) (p c : ℤ) (shown : Float) : Type 0 where
+  pub within : isBetween p c shown ≡ true
+  pub start : remainder ≡ 0 → shown ≡ whole p
+  pub rest : p ≡ c → shown ≡ whole p
+
+-- The shown place of a carrier, of any session: from the state before the last step to the state.
+pub record ShownBetween : Type 0 where
+  pub x : (session : Session) (l : Lent) (i : ℕ) (place : Place)
+      → answer (shownOrder session l i) ≡ accepted place
+      → Between (session .clock .remainder)
+      (carrier i (previous session l) .x) (carrier i (l .state) .x) (place .x)
+  pub y : (session : Session) (l : Lent) (i : ℕ) (place : Place)
+      → answer (shownOrder session l i) ≡ accepted place
+      → Between (session .clock .remainder)
+      (carrier i (previous session l) .y) (carrier i (l .state) .y) (place .y)
+
 -- The premises are met: the practice yard opens, with any first reading.
 pub record SomeWorldOpens : Type 0 where
   pub opens : (first : ℕ) → (h : Handed) × Opened practice first h
@@ -250,7 +269,7 @@ pub record Demands : Type 0 where
   -- Demand 1, of any bytes, numbers, readings and buffers.
   pub determined : Determined
   pub exactlyWhen : ExactlyWhen
-  -- Demands 2 and 3, of sessions from opening on, on every world.
+  -- Demand 2, of sessions from opening on, on every world.
   pub demand2 : (world : World) (first : ℕ) (calls : List Call) (h : Handed)
       → Reached world first calls h → Demand2 world h
   pub time : (world : World) (first : ℕ) (calls : List Call) (h : Handed)
@@ -258,6 +277,9 @@ pub record Demands : Type 0 where
   -- 'records for step n or later .. move nothing'
   pub later : (world : World) (n : ℕ) (records : List Record)
       → moved world n (earlier n records) ≡ moved world n records
+  -- Where a carrier is shown, of any session.
+  pub shown : ShownBetween
+  -- Demand 3, of sessions from opening on, on every world.
   pub demand3 : (world : World) → Demand3 world
   pub met : SomeWorldOpens
   -- 'Examples to hold against it'
