@@ -29,7 +29,7 @@ use Rattle.course.proofs.Records.{same-at, same-log}
 use Rattle.course.proofs.Rows.{after-agree, length-rows, row-saved, row-blank}
 use Rattle.course.proofs.Calls.{heldAt, answerAt, PlacedAs, told-at, is-held-at, leaves}
 use Rattle.course.proofs.Calls.{is-unread, is-read, is-malformed, is-placed, took-says}
-use Rattle.course.proofs.Kept.{Kept, kept, good-after, row-good, no-fault, take-row}
+use Rattle.course.proofs.Kept.{Kept, kept, good-after, no-fault, take-row}
 use Rattle.course.proofs.History.{clock-is, held-again}
 use Rattle.course.proofs.Swap.{places-differ, swap}
 use Rattle.course.proofs.Words.{flat-length, flat-row, flat-saved, flat-back}

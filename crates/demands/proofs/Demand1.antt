@@ -1,6 +1,6 @@
 -- Demand 1: each entry's contract allows one outcome, and gives each number exactly when.
 use Prim.Native.Nat.{ℕ}
-use mathlib.Core.Path.{_≡_, refl, sym, ap, _∙_}
+use mathlib.Core.Path.{_≡_, sym, ap, _∙_}
 use mathlib.Core.Logic.{_↔_}
 use mathlib.Core.List.{List}
 use native.Mathlib.Omega.{arith}
@@ -14,7 +14,6 @@ use Rattle.session.specs.declared.Running.{Running}
 use Rattle.session.specs.declared.Running.the-variants as running
 use Rattle.session.specs.declared.Delivered.{Delivered}
 use Rattle.session.specs.declared.Delivered.the-variants as delivered
-use Rattle.session.specs.declared.Replayed.{Replayed}
 use Rattle.session.specs.declared.Replayed.the-variants as replayed
 use Rattle.session.specs.declared.Digested.{Digested}
 use Rattle.session.specs.declared.Digested.the-variants as digested

@@ -1,19 +1,19 @@
 -- Demand 2, of the words of a session of the model.
 use Prim.Native.Nat.{ℕ, zero, suc, _+_, _*_, _-_, _%_, _<_, _≤_}
-use mathlib.Core.Path.{_≡_, refl, sym, ap, subst, _∙_}
+use mathlib.Core.Path.{_≡_, refl, sym, ap, _∙_}
 use mathlib.Core.Bool.{Bool, true, false, cond}
-use mathlib.Core.List.{List, [], _∷_, flatten}
+use mathlib.Core.List.{List, flatten}
 use native.Mathlib.Nat.{zero-add}
 use native.Mathlib.Omega.{arith}
 use borrow.Author.Tests.{eq-eqb, eqb-true, eqb-false, lt-ltb, le-leb}
-use lib.Dec.{eqb, ltb, leb}
+use lib.Dec.{eqb}
 use lib.IntN.{ℤ, pos}
 use lib.ListN.{length, take, replicate}
 use lib.Seq.{take-at}
 use Rattle.basis.specs.Numbers.{stepLength}
 use Rattle.basis.specs.Order.{accepted, answer, andThen}
 use Rattle.basis.proofs.Order.{passes, gives}
-use Rattle.record.specs.Log.{logOf, recordsOf}
+use Rattle.record.specs.Log.{logOf}
 use Rattle.record.specs.Held.{bufferOf}
 use Rattle.record.specs.declared.bytes.Record.{Record}
 use Rattle.record.proofs.Climbs.{ascends}
@@ -34,7 +34,7 @@ use Rattle.course.proofs.Words.{flat-length}
 use Rattle.session.specs.Sound.{worldRoom}
 use Rattle.session.specs.Calls.{worldOrder}
 use Rattle.session.specs.Calls.{replayOrder, digestOrder, shownOrder, shownOf, previous}
-use Rattle.demands.specs.Handed.{Handed, lentIn, heldBy, moved}
+use Rattle.demands.specs.Handed.{lentIn, moved}
 use Rattle.demands.specs.Statements.{Demand2}
 use Rattle.demands.proofs.Model.{Opens, model, lawful, fitting-fits}
 use Rattle.demands.proofs.Ties.{handed, fits, same-records, same-row, words-sound}

@@ -1,11 +1,11 @@
 -- Demand 3 at the words, from the model's.
 use Prim.Native.Nat.{ℕ}
 use mathlib.Core.Path.{_≡_, refl, sym, ap, subst, _∙_}
-use mathlib.Core.Bool.{Bool, true, false}
+use mathlib.Core.Bool.{Bool, false}
 use mathlib.Core.Logic.{_↔_, _≢_}
 use mathlib.Core.List.{List, [], _∷_, List·Memᴰ, flatten}
 use lib.Dec.{eqb}
-use Rattle.basis.specs.Numbers.{TAKEN, stepLength}
+use Rattle.basis.specs.Numbers.{TAKEN}
 use Rattle.basis.specs.Order.{Answer, refused, accepted, answer}
 use Rattle.basis.proofs.Order.{apart}
 use Rattle.basis.proofs.Tests.{never}
@@ -16,7 +16,7 @@ use Rattle.fleet.specs.State.{World}
 use Rattle.course.specs.Session.{Session}
 use Rattle.course.specs.Statements.{Demand3 as Demand3Model}
 use Rattle.course.specs.Calls.{Call, delivery, Outcome, read, taken, held, answerTo}
-use Rattle.course.specs.Calls.{next as modelNext, run as modelRun, sessionAfter, readingsOf}
+use Rattle.course.specs.Calls.{run as modelRun, sessionAfter}
 use Rattle.course.specs.Calls.{Reached as ModelReached}
 use Rattle.course.proofs.Calls.{PlacedAs, told-at, byBytes, is-malformed, is-placed}
 use Rattle.course.proofs.Calls.{leaves as leaves-model}
@@ -24,7 +24,7 @@ use Rattle.course.proofs.Kept.{Kept, kept-next, kept-run}
 use Rattle.course.proofs.Statements.{course}
 use Rattle.session.specs.Lent.{made, leaves}
 use Rattle.session.specs.Calls.{Delivery, held as heldWords}
-use Rattle.demands.specs.Handed.{Handed, lentIn, deliveryLeaves, next, afterCalls, Reached}
+use Rattle.demands.specs.Handed.{Handed, lentIn, deliveryLeaves, next, afterCalls}
 use Rattle.demands.specs.Handed.{heldBy}
 use Rattle.demands.specs.Statements.{Taken, Same, Demand3}
 use Rattle.demands.proofs.Model.{Opens, model, lawful}

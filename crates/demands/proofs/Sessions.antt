@@ -1,11 +1,11 @@
 -- Every session as in demand 3 has the words of a session of the model.
-use Prim.Native.Nat.{ℕ, _+_, _*_}
-use mathlib.Core.Path.{_≡_, refl, sym, ap, subst, _∙_}
+use Prim.Native.Nat.{ℕ, _*_}
+use mathlib.Core.Path.{_≡_, refl, sym, ap, _∙_}
 use mathlib.Core.List.{List, [], _∷_, flatten}
 use native.Mathlib.Omega.{arith}
-use lib.IntN.{ℤ, pos}
-use lib.ListN.{length, replicate}
-use Rattle.basis.specs.Order.{Answer, refused, accepted, answer}
+use lib.IntN.{pos}
+use lib.ListN.{replicate}
+use Rattle.basis.specs.Order.{Answer, refused, accepted}
 use Rattle.record.specs.Held.{bufferOf}
 use Rattle.fleet.specs.State.{World}
 use Rattle.course.specs.Session.{Session, opening}

@@ -1,21 +1,19 @@
 -- The words of a session of the model: what the calls of `session` leave of them are the words of
 -- what the model leaves.
-use Prim.Native.Nat.{ℕ, zero, suc, _+_, _*_, _-_, _%_, _<_, _≤_}
-use mathlib.Core.Path.{_≡_, refl, sym, ap, ap₂, subst, _∙_}
-use mathlib.Core.Bool.{Bool, true, false, cond, _&&_, _||_}
-use mathlib.Core.List.{List, [], _∷_, flatten}
+use Prim.Native.Nat.{ℕ, zero, suc, _+_, _*_, _-_, _%_, _≤_}
+use mathlib.Core.Path.{_≡_, refl, sym, ap, _∙_}
+use mathlib.Core.Bool.{Bool, true, false, cond}
+use mathlib.Core.List.{List, flatten}
 use mathlib.Core.Option.{Option, none, some}
 use native.Mathlib.Numerals.{add-one}
 use native.Mathlib.Omega.{arith}
 use borrow.Author.Tests.{eq-eqb}
-use lib.Dec.{ltb, leb, eqb}
-use lib.IntN.{ℤ, pos}
-use lib.ListN.{length, take, drop, length-drop}
+use lib.Dec.{ltb}
+use lib.ListN.{length, drop, length-drop}
 use lib.Seq.{length-take-le}
 use Rattle.basis.specs.Numbers.{CONFLICT, FULL, LATE, FAULT}
 use Rattle.basis.specs.Order.{Answer, refused, accepted, Order, check, give, answer, andThen}
 use Rattle.basis.proofs.Order.{passes, stops, goes-on, apart}
-use Rattle.basis.proofs.Tests.{and-both}
 use Rattle.record.specs.Bytes.{readOrder}
 use Rattle.record.specs.Held.{bufferOf, putIn}
 use Rattle.record.specs.Place.{Found, byLever, byPlace}
@@ -25,7 +23,7 @@ use Rattle.record.proofs.Insertion.{length-putIn, length-buffer}
 use Rattle.record.proofs.Buffers.{buffer-sound, buffer-records}
 use Rattle.clock.specs.Reading.{Given}
 use Rattle.clock.proofs.Sound.{is-sound}
-use Rattle.fleet.specs.State.{World, worldOf, stateWords, soundState}
+use Rattle.fleet.specs.State.{World, stateWords}
 use Rattle.fleet.specs.Step.{stepAt}
 use Rattle.fleet.specs.Run.{Course, courseOf, runSaving, rowOf, saved, goBack as backWords}
 use Rattle.fleet.proofs.Rows.{row-end}

@@ -1,25 +1,20 @@
 -- What a sound session says, as the facts that the calls' parts require.
-use Prim.Native.Nat.{ℕ, _+_, _*_, _≤_}
-use mathlib.Core.Path.{_≡_, refl, sym, ap, _∙_}
-use mathlib.Core.List.{List}
+use mathlib.Core.Path.{_≡_}
 use mathlib.Core.Bool.{Bool, true, false, _&&_}
 use native.Mathlib.Omega.{arith}
-use lib.ListN.{length}
 use Rattle.basis.specs.Numbers.{stepLength}
 use Rattle.basis.specs.LittleEndian.{Bytes}
 use Rattle.basis.proofs.Tests.{and-left, and-right, not-right}
-use Rattle.record.specs.Log.{records}
-use Rattle.record.specs.Held.{soundBuffer, HoldsRecords}
-use Rattle.record.proofs.Climbs.{Climbs, ascends}
-use Rattle.record.proofs.Logs.{AllWithin}
-use Rattle.record.proofs.Buffers.{Kept, kept, held-unrefused, held-within, held-climbs, holds}
+use Rattle.record.specs.Held.{soundBuffer}
+use Rattle.record.proofs.Climbs.{ascends}
+use Rattle.record.proofs.Buffers.{Kept, kept, held-unrefused, held-climbs}
 use Rattle.clock.specs.Clock.{soundClock}
 use Rattle.yard.specs.Rule9.{rangesHold, cellsHold, sizesHold}
 use Rattle.yard.proofs.Fits.{cells-fit, boxes-fit}
 use Rattle.fleet.specs.State.{soundState}
 use Rattle.fleet.specs.Fits.{WorldFits, LogFits, StateFits, RowsFit}
 use Rattle.session.specs.declared.Session.{Session}
-use Rattle.session.specs.Lent.{Lent, worldIn, heldIn}
+use Rattle.session.specs.Lent.{Lent, worldIn}
 use Rattle.session.specs.Sound.{room, sound}
 use Rattle.session.proofs.Room.{Room, room-says}
 

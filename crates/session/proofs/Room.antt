@@ -1,13 +1,12 @@
 -- Rule 10's lengths: each way through the test, and what it says.
 use Prim.Native.Nat.{ℕ, _*_, _-_, _<_, _≤_, _^_}
-use mathlib.Core.Path.{_≡_, refl, sym, _∙_}
-use mathlib.Core.List.{List}
-use mathlib.Core.Bool.{Bool, true, false, _&&_}
-use native.Mathlib.Nat.{mul-le-mul-left, mul-le-mul-right}
+use mathlib.Core.Path.{_≡_}
+use mathlib.Core.Bool.{true, false, _&&_}
+use native.Mathlib.Nat.{mul-le-mul-left}
 use native.Mathlib.Omega.{arith}
 use borrow.Author.Tests.{eq-eqb, ne-eqb, eqb-true}
 use lib.Dec.{eqb}
-use lib.IntN.{ℤ, pos}
+use lib.IntN.{pos}
 use lib.ListN.{length, replicate, length-replicate}
 use Rattle.basis.proofs.Tests.{and-left, and-right}
 use Rattle.record.specs.Held.{bufferSize}

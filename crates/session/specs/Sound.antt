@@ -8,7 +8,7 @@ use Rattle.record.specs.Held.{bufferSize, soundBuffer}
 use Rattle.clock.specs.Clock.{soundClock}
 use Rattle.yard.specs.declared.world.Yard.{Yard}
 use Rattle.yard.specs.Rule9.{rangesHold, cellsHold, sizesHold}
-use Rattle.fleet.specs.State.{World, stateWords, soundState}
+use Rattle.fleet.specs.State.{soundState}
 use Rattle.session.specs.declared.Session.{Session}
 use Rattle.session.specs.Lent.{Lent, worldIn}
 

@@ -8,7 +8,7 @@ use Rattle.session.specs.Lent.{Lent, lent, leaves}
 use Rattle.session.specs.Sound.{room}
 use Rattle.session.specs.Calls.{worldOrder}
 use Rattle.session.specs.Answers.{checkedOf}
-use Rattle.session.proofs.Room.{Room, room-says}
+use Rattle.session.proofs.Room.{room-says}
 use Rattle.session.proofs.Openings.{Passes, passes-say, open-refuses, open-gives}
 use Rattle.session.proofs.Session.open.Statement.{statement}
 use Rattle.session.proofs.Session.open.Tie as tie

@@ -10,7 +10,7 @@ use Rattle.basis.specs.Numbers.{mostSteps, stepLength}
 use Rattle.basis.proofs.Order.{fails}
 use Rattle.session.proofs.Good.{good, world-fits, log-fits, state-fits, rows-fit}
 use Rattle.session.specs.Calls.{readingOrder}
-use Rattle.session.specs.Lent.{Lent, lent, made, leaves}
+use Rattle.session.specs.Lent.{Lent, lent, leaves}
 use Rattle.clock.specs.Reading.{Given, answerOf, readingOrder as clockOrder}
 use Rattle.clock.specs.Reading.{answerOf}
 use Rattle.session.proofs.Readings.{clock-refuses, clock-gives, due-fits, read-left}

@@ -1,6 +1,5 @@
 -- `worlds::world_room` meets its contract.
 use mathlib.Core.Path.{sym}
-use native.Mathlib.Omega.{arith}
 use borrow.Author.Needs.{needs}
 use Rattle.session.proofs.Room.{area-fits, cells-wrong, boxes-wrong, state-decides}
 use Rattle.session.proofs.worlds.world_room.Statement.{statement}
