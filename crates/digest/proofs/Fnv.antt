@@ -1,12 +1,12 @@
 -- Laws of FNV-1a over a list of bytes: joined lists, one byte more, its width, the low byte.
-use Prim.Native.Nat.{ℕ, _+_, _*_, _/_, _%_, _^_, _<_}
+use Prim.Native.Nat.{ℕ, _+_, _*_, _/_, _%_, _^_, _<_, _≤_}
 use mathlib.Core.Path.{_≡_, refl, sym, ap₂, _∙_}
 use mathlib.Core.List.{List, [], _∷_, _++_}
 use native.Mathlib.Nat.{zero-add, div-add-mod', mod-lt}
 use native.Mathlib.Numerals.{add-one}
 use native.Mathlib.Omega.{arith}
 use lib.Bits.{bitXor, xor-block, xor-lt, xor-zero-r}
-use lib.ListN.{length, drop, getD}
+use lib.ListN.{length, drop, getD, drop-of-length-le}
 use lib.Seq.{drop-cons}
 use lib.Pow.{pow-pos}
 use lib.Dec.{lit<}
@@ -24,6 +24,11 @@ pub one-more : (value i : ℕ) (list : List ℕ) → i < length list
     → fnv value (drop i list) ≡ fnv (withByte value (getD list i 0)) (drop (i + 1) list)
 unfolding fnv
 one-more value i list h = rw (add-one, drop-cons list i 0)
+
+-- From the end on there are none.
+pub no-more : (value i : ℕ) (list : List ℕ) → length list ≤ i → fnv value (drop i list) ≡ value
+unfolding fnv
+no-more value i list h = rw (drop-of-length-le list h)
 
 -- What is multiplied has 32 bits.
 pub xor-below : (value byte : ℕ) → value < 2 ^ 32 → byte < 2 ^ 8 → bitXor value byte < 2 ^ 32

@@ -10,7 +10,7 @@ use lib.Seq.{take-all, length-take-le}
 use borrow.Author.Tests.{lt-leb, leb-true, leb-false}
 use Rattle.basis.specs.Numbers.{LOG, mostSteps}
 use Rattle.basis.specs.Order.{Answer, answer, refused, accepted}
-use Rattle.basis.proofs.Order.{held, given, passes, gives, apart}
+use Rattle.basis.proofs.Order.{held, given, apart}
 use Rattle.record.specs.Bytes.{recordOf, wellFormed, limitsOrder, readOrder}
 use Rattle.record.specs.Held.{bufferSize}
 use Rattle.record.specs.Log.{precedes, soundLog}
@@ -28,7 +28,7 @@ use Rattle.fleet.specs.Examples.{practice}
 use Rattle.rerun.specs.Rerun.{End, stepsPast, programOrder}
 use Rattle.rerun.specs.Statements.{Program, Examples}
 use Rattle.rerun.specs.Text.{decimalTo, wordText, wordsText, linesOf}
-use Rattle.rerun.proofs.Past.{too-long, unsound, replays, sound-within}
+use Rattle.rerun.proofs.Past.{too-long, unsound, reruns, replays, sound-within}
 
 long : (input : List ℕ) → bufferSize < length input → answer (programOrder input) ≡ refused LOG
 long input h = too-long input (lt-leb _ _ h)
@@ -53,16 +53,12 @@ enough input = go (leb (length input) bufferSize) refl
 number : {n : ℕ} → _≡_ {A = Answer End} (refused n) (refused LOG) → n ≡ LOG
 number e = cc
 
--- The two tests of the program.
 only : (input : List ℕ) (n : ℕ) → answer (programOrder input) ≡ refused n → n ≡ LOG
-unfolding programOrder
-only input n q = go (leb (length input) bufferSize) refl (soundLog (practice .yard .b) input) refl
+only input n q = go (soundLog (practice .yard .b) input) refl
   where
-    go : (t : Bool) → leb (length input) bufferSize ≡ t
-        → (s : Bool) → soundLog (practice .yard .b) input ≡ s → n ≡ LOG
-    go false e s p = number (sym q ∙ too-long input e)
-    go true e false p = number (sym q ∙ unsound input e p)
-    go true e true p = apart (sym q ∙ passes _ _ e ∙ passes _ _ p ∙ gives _)
+    go : (t : Bool) → soundLog (practice .yard .b) input ≡ t → n ≡ LOG
+    go false e = number (sym q ∙ unsound input e)
+    go true e = apart (sym q ∙ reruns input e)
 
 steps : (input : List ℕ) (end : End) → answer (programOrder input) ≡ accepted end
     → end .steps ≤ mostSteps
@@ -74,7 +70,15 @@ steps input end q =
 
 pub program : Program
 program =
-    record { long = long; enough = enough; only = only; replayed = replays; steps = steps }
+    record {
+      long = long;
+      enough = enough;
+      unsound = unsound;
+      only = only;
+      rerun = reruns;
+      replayed = replays;
+      steps = steps;
+    }
 
 pub examples : Examples
 unfolding programOrder answer soundLog readOrder limitsOrder wellFormed recordOf precedes stepsPast

@@ -1,7 +1,7 @@
 -- What is claimed of the program. proofs/Statements.antt proves each record whole.
 use Prim.Native.Nat.{ℕ, _+_, _<_, _≤_}
 use mathlib.Core.Path.{_≡_}
-use mathlib.Core.Bool.{true}
+use mathlib.Core.Bool.{true, false}
 use mathlib.Core.List.{List, [], _∷_}
 use lib.IntN.{ℤ}
 use lib.ListN.{length, take}
@@ -22,8 +22,14 @@ pub record Program : Type 0 where
   -- One byte more than a log has is read, and that is enough: what follows plays no part.
   pub enough : (input : List ℕ)
       → answer (programOrder (take (bufferSize + 1) input)) ≡ answer (programOrder input)
+  -- 'A refused log ..': one that rule 13 refuses, for one carrier.
+  pub unsound : (input : List ℕ) → soundLog (practice .yard .b) input ≡ false
+      → answer (programOrder input) ≡ refused LOG
   -- No other number is given.
   pub only : (input : List ℕ) (n : ℕ) → answer (programOrder input) ≡ refused n → n ≡ LOG
+  -- Any other is re-run to 'one step past the last record's step'.
+  pub rerun : (input : List ℕ) → soundLog (practice .yard .b) input ≡ true
+      → answer (programOrder input) ≡ accepted (endOf (recordsOf input))
   -- A sound log is replayed: whatever the state held, replay of it gives this state.
   pub replayed : (input : List ℕ) (state : List ℤ) → length state ≡ 5
       → soundLog (practice .yard .b) input ≡ true

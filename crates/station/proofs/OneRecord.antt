@@ -35,6 +35,13 @@ module _ (bytes out : List ℕ) where
     unfolding readRecordFace
     read-given h = goes-on _ _ e ∙ passes _ _ (eq-eqb _ _ h) ∙ gives _
 
+module _ (step carrier lever : ℕ) (out : List ℕ) {r : Record}
+    (e : answer (writeOrder step carrier lever) ≡ accepted r) where
+  pub not-eight : (length out ≡ 8 → ⊥)
+      → answer (writeRecordFace step carrier lever out) ≡ refused ROOM
+  unfolding writeRecordFace
+  not-eight h = goes-on _ _ e ∙ fails _ _ (ne-eqb _ _ h)
+
 -- The outcome of a written record, as an answer.
 number-of : Outcome → Answer (Unit {0})
 number-of (outcome.Done) = accepted tt
@@ -84,8 +91,7 @@ module _ (step carrier lever : ℕ) (out : List ℕ) (w : Written)
 
   pub write-no-room : w .outcome ≡ outcome.Done → (length out ≡ 8 → ⊥)
       → answer (writeRecordFace step carrier lever out) ≡ refused ROOM
-  unfolding writeRecordFace
-  write-no-room q h = done q _ (λ r p. goes-on _ _ p ∙ fails _ _ (ne-eqb _ _ h))
+  write-no-room q h = done q _ (λ r p. not-eight step carrier lever out p h)
 
   pub write-given : w .outcome ≡ outcome.Done → length out ≡ 8
       → filled DONE (stored out 0 0 (eight (w .bytes)))

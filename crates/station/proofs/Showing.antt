@@ -6,12 +6,12 @@ use mathlib.Core.List.{List}
 use lib.ListN.{length}
 use borrow.Author.Tests.{eq-eqb, ne-eqb}
 use Rattle.basis.specs.Numbers.{FAULT}
-use Rattle.basis.specs.Order.{Order, check, andThen, answer, refused, accepted}
+use Rattle.basis.specs.Order.{Order, check, give, andThen, answer, refused, accepted}
 use Rattle.basis.proofs.Order.{passes, fails, gives, stops, goes-on}
 use Rattle.session.specs.Lent.{Lent}
 use Rattle.session.specs.Sound.{sound}
 use Rattle.station.specs.Face.{shows}
-use Rattle.station.specs.Words.{sessionOf, wordsFit}
+use Rattle.station.specs.Words.{sessionOf, nine, wordsFit}
 use Rattle.station.proofs.Sessions.{fit-nine, unfit}
 
 module _ {A B : Type 0} (count : ℕ) (out : List B) (words : List ℕ) (order : Order A)
@@ -21,18 +21,21 @@ module _ {A B : Type 0} (count : ℕ) (out : List B) (words : List ℕ) (order :
   unfolding shows
   wrong-out h = fails _ _ (ne-eqb _ _ h)
 
+  -- With both lengths right, what is shown decides.
+  pub shows-order : length out ≡ count → nine words ≡ true
+      → answer (shows count out words order parts)
+      ≡ answer (andThen order (λ a. give (parts a)))
+  unfolding shows
+  shows-order long e = passes _ _ (eq-eqb _ _ long) ∙ passes _ _ e
+
   module _ (long : length out ≡ count) (e : wordsFit words ≡ true) where
     pub shows-refused : {number : ℕ} → answer order ≡ refused number
         → answer (shows count out words order parts) ≡ refused number
-    unfolding shows
-    shows-refused q =
-        passes _ _ (eq-eqb _ _ long) ∙ passes _ _ (fit-nine words e) ∙ stops _ _ q
+    shows-refused q = shows-order long (fit-nine words e) ∙ stops _ _ q
 
     pub shows-given : {a : A} → answer order ≡ accepted a
         → answer (shows count out words order parts) ≡ accepted (parts a)
-    unfolding shows
-    shows-given q =
-        passes _ _ (eq-eqb _ _ long) ∙ passes _ _ (fit-nine words e) ∙ goes-on _ _ q ∙ gives _
+    shows-given q = shows-order long (fit-nine words e) ∙ goes-on _ _ q ∙ gives _
 
 -- The session is tested first in what is shown: 14 where its words don't fit.
 pub shows-unfit : {A B : Type 0} (count : ℕ) (out : List B) (words : List ℕ) (l : Lent)

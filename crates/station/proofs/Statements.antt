@@ -1,31 +1,33 @@
 -- The statements of specs/Statements.antt, proved.
-use Prim.Native.Nat.{ℕ, zero, suc, _<_, _≤_}
+use Prim.Native.Nat.{ℕ}
 use mathlib.Core.Path.{_≡_, refl, sym, ap, _∙_}
 use mathlib.Core.Bool.{Bool, true, false, _&&_}
 use mathlib.Core.List.{List, [], _∷_}
 use native.Mathlib.Omega.{arith}
 use lib.Dec.{eqb}
 use lib.Ieee.{Float}
-use lib.ListN.{getD, length}
+use lib.ListN.{length}
 use borrow.Author.Tests.{eq-eqb, ne-eqb}
 use Rattle.basis.specs.Numbers.{ROOM, FAULT}
-use Rattle.basis.specs.Order.{Order, answer, refused, andThen}
+use Rattle.basis.specs.Order.{Order, answer, refused, andThen, give}
 use Rattle.basis.proofs.Order.{passes, fails}
 use Rattle.basis.proofs.Tests.{never, and-both}
 use Rattle.yard.specs.Rule9.{rangesHold}
 use Rattle.yard.specs.declared.world.Yard.{Yard}
 use Rattle.session.specs.Calls.{worldOrder, openOrder, readingOrder, deliverOrder}
+use Rattle.session.specs.Calls.{digestOrder, shownOrder}
 use Rattle.session.specs.Lent.{Lent}
-use Rattle.session.specs.Sound.{room, sound}
+use Rattle.session.specs.Sound.{room}
 use Rattle.session.specs.declared.Session.{Session}
-use Rattle.session.proofs.Good.{good}
-use Rattle.session.proofs.Room.{width-most, height-most, carriers-most}
+use Rattle.session.proofs.Good.{bad-ranges}
 use Rattle.station.specs.Words.{sessionWords, sessionOf, nine}
 use Rattle.station.specs.Left.{Filled, filled, Left}
 use Rattle.station.specs.Face.{openFace, readingFace, deliverFace, shows, digestFace}
-use Rattle.station.specs.Face.{shownFace}
+use Rattle.station.specs.Face.{shownFace, stepRecordsFace}
 use Rattle.station.specs.Statements.{NineWords, OneOutcome, OneLeft, Determined, Refusals}
 use Rattle.station.specs.Statements.{Lengths, Thin}
+use Rattle.station.proofs.OneRecord.{read-no-room, not-eight}
+use Rattle.station.proofs.Showing.{wrong-out, shows-order}
 
 session-back : (words : List ℕ) → length words ≡ 9 → sessionWords (sessionOf words) ≡ words
 unfolding sessionWords sessionOf
@@ -40,23 +42,6 @@ session-back (a ∷ b ∷ c ∷ []) long = absurd (omega arith)
 session-back (a ∷ b ∷ []) long = absurd (omega arith)
 session-back (a ∷ []) long = absurd (omega arith)
 session-back [] long = absurd (omega arith)
-
--- A range that is passed fails soundness.
-ranges-say : (words : List ℕ) → rangesHold (sessionOf words .yard) ≡ true → (k : ℕ) → k < 3
-    → getD words k 0 ≤ 64
-unfolding sessionOf
-ranges-say words e zero h = width-most _ e
-ranges-say words e (suc zero) h = height-most _ e
-ranges-say words e (suc (suc zero)) h = omega (arith, carriers-most (sessionOf words .yard) e)
-ranges-say words e (suc (suc (suc k))) h = absurd (omega arith)
-
-too-great : (words : List ℕ) (l : Lent) (k : ℕ) → k < 3 → 64 < getD words k 0
-    → sound (sessionOf words) l ≡ false
-too-great words l k h great = go (sound (sessionOf words) l) refl
-  where
-    go : (s : Bool) → sound (sessionOf words) l ≡ s → s ≡ false
-    go false e = refl
-    go true e = absurd (omega (arith, ranges-say words (good _ l e .ranges) k h))
 
 one-outcome : {A : Type 0} (x : Filled A) → OneOutcome x
 one-outcome x r s out other p q =
@@ -147,6 +132,22 @@ module _ (words : List ℕ) (h : length words ≡ 9 → ⊥) (l : Lent) where
   unfolding shownFace
   shown-fault carrier out = shows-fault 2 out _ _
 
+-- A slice that isn't as long as what is given.
+digest-room : (l : Lent) (words out : List ℕ) → (length out ≡ 1 → ⊥)
+    → answer (digestFace l words out) ≡ refused FAULT
+unfolding digestFace
+digest-room l words out h = wrong-out _ _ _ _ _ h
+
+shown-room : (carrier : ℕ) (l : Lent) (words : List ℕ) (out : List Float) → (length out ≡ 2 → ⊥)
+    → answer (shownFace carrier l words out) ≡ refused FAULT
+unfolding shownFace
+shown-room carrier l words out h = wrong-out _ _ _ _ _ h
+
+part-room : (log : List ℕ) (step : ℕ) (out : List ℕ) → (length out ≡ 2 → ⊥)
+    → answer (stepRecordsFace log step out) ≡ refused ROOM
+unfolding stepRecordsFace
+part-room log step out h = fails _ _ (ne-eqb _ _ h)
+
 pub lengths : Lengths
 lengths =
     record {
@@ -158,6 +159,11 @@ lengths =
             digest-fault words h l,
             shown-fault words h l,
           );
+      digest = digest-room;
+      shown = shown-room;
+      stepRecords = part-room;
+      readRecord = λ bytes out r. read-no-room bytes out;
+      writeRecord = λ step carrier lever out r. not-eight step carrier lever out;
     }
 
 readings : (reading : ℕ) (l : Lent) (words : List ℕ) → length words ≡ 9
@@ -170,12 +176,38 @@ delivers : (bytes : List ℕ) (l : Lent) (words : List ℕ) → length words ≡
 unfolding deliverFace
 delivers bytes l words long = passes _ _ (eq-eqb _ _ long)
 
+digests : (l : Lent) (words out : List ℕ) → length words ≡ 9 → length out ≡ 1
+    → answer (digestFace l words out)
+    ≡ answer (andThen (digestOrder (sessionOf words) l) (λ value. give (value ∷ [])))
+unfolding digestFace
+digests l words out long one = shows-order _ _ _ _ _ one (eq-eqb _ _ long)
+
+shows-place : (carrier : ℕ) (l : Lent) (words : List ℕ) (out : List Float)
+    → length words ≡ 9 → length out ≡ 2
+    → answer (shownFace carrier l words out)
+    ≡ answer (andThen (shownOrder (sessionOf words) l carrier)
+    (λ place. give (place .x ∷ place .y ∷ [])))
+unfolding shownFace
+shows-place carrier l words out long two = shows-order _ _ _ _ _ two (eq-eqb _ _ long)
+
 pub thin : Thin
-thin = record { opens = opens; reading = readings; deliver = delivers }
+thin =
+    record {
+      opens = opens;
+      reading = readings;
+      deliver = delivers;
+      digest = digests;
+      shown = shows-place;
+    }
 
 session-forth : (s : Session) → sessionOf (sessionWords s) ≡ s
 unfolding sessionWords sessionOf
 session-forth s = refl
 
 pub nineWords : NineWords
-nineWords = record { session = session-forth; words = session-back; whole = too-great }
+nineWords =
+    record {
+      session = session-forth;
+      words = session-back;
+      whole = λ words l. bad-ranges (sessionOf words) l;
+    }

@@ -1,17 +1,19 @@
 -- What is claimed of the C face. proofs/Statements.antt proves each record whole.
-use Prim.Native.Nat.{ℕ, _<_}
+use Prim.Native.Nat.{ℕ}
 use mathlib.Core.Path.{_≡_}
 use mathlib.Core.Bool.{true, false, _&&_}
-use mathlib.Core.List.{List}
+use mathlib.Core.List.{List, [], _∷_}
 use lib.Ieee.{Float}
 use lib.IntN.{ℤ}
-use lib.ListN.{getD, length}
-use Rattle.basis.specs.Numbers.{ROOM, FAULT}
-use Rattle.basis.specs.Order.{Answer, refused, answer}
+use lib.ListN.{length}
+use Rattle.basis.specs.Numbers.{ROOM, FAULT, mostCarriers}
+use Rattle.basis.specs.Order.{Answer, refused, accepted, answer, andThen, give}
+use Rattle.record.specs.Bytes.{readOrder, writeOrder}
+use Rattle.record.specs.declared.bytes.Record.{Record}
 use Rattle.yard.specs.Rule9.{rangesHold}
 use Rattle.yard.specs.declared.world.Yard.{Yard}
 use Rattle.session.specs.Calls.{openOrder, readingOrder, deliverOrder, replayOrder}
-use Rattle.session.specs.Calls.{Delivery}
+use Rattle.session.specs.Calls.{Delivery, digestOrder, shownOrder}
 use Rattle.session.specs.Lent.{Lent, Made}
 use Rattle.session.specs.Sound.{room, sound}
 use Rattle.session.specs.declared.Session.{Session}
@@ -27,8 +29,8 @@ pub record NineWords : Type 0 where
   pub session : (s : Session) → sessionOf (sessionWords s) ≡ s
   -- Nine words are those of the session in them.
   pub words : (words : List ℕ) → length words ≡ 9 → sessionWords (sessionOf words) ≡ words
-  -- A word is compared whole: W, H or B above its range is unsound, also 2^32 above a good one.
-  pub whole : (words : List ℕ) (l : Lent) (k : ℕ) → k < 3 → 64 < getD words k 0
+  -- A word is compared whole: W, H or B out of its range is unsound, also 2^32 above a good one.
+  pub whole : (words : List ℕ) (l : Lent) → rangesHold (sessionOf words .yard) ≡ false
       → sound (sessionOf words) l ≡ false
 
 -- Any two outcomes of which a contract says that they come to this are the same.
@@ -85,8 +87,25 @@ pub record Lengths : Type 0 where
       × ((bytes : List ℕ) → answer (deliverFace bytes l words) ≡ refused FAULT)
       × ((out : List ℕ) → answer (digestFace l words out) ≡ refused FAULT)
       × ((carrier : ℕ) (out : List Float) → answer (shownFace carrier l words out) ≡ refused FAULT)
+  -- A digest into a slice that isn't one word is 14, whatever else is lent.
+  pub digest : (l : Lent) (words out : List ℕ) → (length out ≡ 1 → ⊥)
+      → answer (digestFace l words out) ≡ refused FAULT
+  -- A shown place into a slice that isn't two f64 is 14, whatever else is lent.
+  pub shown : (carrier : ℕ) (l : Lent) (words : List ℕ) (out : List Float) → (length out ≡ 2 → ⊥)
+      → answer (shownFace carrier l words out) ≡ refused FAULT
+  -- The part of one step into a slice that isn't two words is 10.
+  pub stepRecords : (log : List ℕ) (step : ℕ) (out : List ℕ) → (length out ≡ 2 → ⊥)
+      → answer (stepRecordsFace log step out) ≡ refused ROOM
+  -- A record that is read, but not into three words, is 10: last, after the record's own numbers.
+  pub readRecord : (bytes out : List ℕ) (r : Record)
+      → answer (readOrder mostCarriers bytes) ≡ accepted r → (length out ≡ 3 → ⊥)
+      → answer (readRecordFace bytes out) ≡ refused ROOM
+  -- So is one that is written, but not into eight bytes.
+  pub writeRecord : (step carrier lever : ℕ) (out : List ℕ) (r : Record)
+      → answer (writeOrder step carrier lever) ≡ accepted r → (length out ≡ 8 → ⊥)
+      → answer (writeRecordFace step carrier lever out) ≡ refused ROOM
 
--- With nine words the C face answers as `session` does.
+-- With nine words, and `out` of the right length, the C face answers as `session` does.
 pub record Thin : Type 0 where
   pub opens : (yard : Yard) (reading : ℕ) (l : Lent) (words : List ℕ) → length words ≡ 9
       → answer (openFace yard reading l words) ≡ answer (openOrder yard reading l)
@@ -94,3 +113,11 @@ pub record Thin : Type 0 where
       → answer (readingFace reading l words) ≡ answer (readingOrder (sessionOf words) l reading)
   pub deliver : (bytes : List ℕ) (l : Lent) (words : List ℕ) → length words ≡ 9
       → answer (deliverFace bytes l words) ≡ answer (deliverOrder (sessionOf words) l bytes)
+  pub digest : (l : Lent) (words out : List ℕ) → length words ≡ 9 → length out ≡ 1
+      → answer (digestFace l words out)
+      ≡ answer (andThen (digestOrder (sessionOf words) l) (λ value. give (value ∷ [])))
+  pub shown : (carrier : ℕ) (l : Lent) (words : List ℕ) (out : List Float)
+      → length words ≡ 9 → length out ≡ 2
+      → answer (shownFace carrier l words out)
+      ≡ answer (andThen (shownOrder (sessionOf words) l carrier)
+      (λ place. give (place .x ∷ place .y ∷ [])))

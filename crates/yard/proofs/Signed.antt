@@ -1,7 +1,7 @@
 -- Laws of signed words. `omega` reads no ℤ, so every bound is one of `natAbs`.
 use Prim.Native.Nat.{ℕ, zero, suc, _+_, _<_, _≤_, _^_}
-use mathlib.Core.Path.{_≡_, refl, ap}
-use mathlib.Core.Bool.{true, false}
+use mathlib.Core.Path.{_≡_, refl, ap, _∙_}
+use mathlib.Core.Bool.{Bool, true, false}
 use native.Mathlib.Omega.{arith}
 use borrow.Author.Tests.{ltb-true, le-ltb}
 use lib.Dec.{T, ltb}
@@ -11,6 +11,7 @@ use mir.Syntax.{w32, w64}
 use mir.Val.{SFits, Fits, toZ, ofZ}
 use mir.Facts.{toZ-ofZ, fits-natAbs}
 use Rattle.basis.proofs.Tests.{never}
+use Rattle.yard.specs.Ranges.{between}
 use Rattle.yard.proofs.Cases.{of-cond}
 
 -- A word as the machine reads it back.
@@ -20,6 +21,11 @@ read z = toZ w32 (ofZ w32 z)
 -- What fits is read back as it is: what a call gives, by its `.ok`, a field or an element.
 pub got : (z : ℤ) → mag z < 2 ^ 31 → read z ≡ z
 got z h = toZ-ofZ (record { sfits = h })
+
+-- The test of a word, of which the machine has its reading.
+pub test-is : (low z high : ℤ) {r : Bool} → mag z < 2 ^ 31 → r ≡ between low (read z) high
+    → r ≡ between low z high
+test-is low z high h e = e ∙ ap (λ s. between low s high) (got z h)
 
 -- What is small fits.
 pub mag≤abs : (z : ℤ) → mag z ≤ natAbs z

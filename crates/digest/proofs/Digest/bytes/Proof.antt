@@ -3,9 +3,9 @@
 use Prim.Native.Nat.{_-_}
 use mathlib.Core.Path.{_≡_, refl, sym, _∙_}
 use borrow.Author.Needs.{needs}
-use lib.ListN.{length, drop, drop-of-length-le}
+use lib.ListN.{length, drop}
 use Rattle.digest.specs.Fnv.{fnv}
-use Rattle.digest.proofs.Fnv.{one-more}
+use Rattle.digest.proofs.Fnv.{one-more, no-more}
 use Rattle.digest.proofs.Digest.bytes.Statement.{statement}
 use Rattle.digest.proofs.Digest.bytes.Tie as tie
 
@@ -36,8 +36,7 @@ loop-again c =
     (c .before .before .before .loop .inv ∙ one-more _ _ _ (shared-slice-read-byte (c .before)))
 
 returns : tie.Need-returns Inv-loop μ-loop
-unfolding fnv
-returns c = sym (rw (drop-of-length-le _ (c .loop-test .left)) at (c .before .loop .inv))
+returns c = sym (c .before .loop .inv ∙ no-more _ _ _ (c .loop-test .left))
 
 pub bytes-spec : {M : Type 1} → statement M
 bytes-spec =

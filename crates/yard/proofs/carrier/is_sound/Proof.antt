@@ -1,16 +1,13 @@
 -- `is_sound` meets its contract: each test in turn.
 use borrow.Author.Needs.{needs}
-use Prim.Native.Nat.{_<_, _^_}
-use mathlib.Core.Path.{_≡_, ap, _∙_}
-use mathlib.Core.Bool.{Bool}
-use lib.IntN.{ℤ, pos}
-use lib.Signed.{mag}
+use mathlib.Core.Path.{_≡_}
+use lib.IntN.{pos}
 use Rattle.yard.specs.declared.carrier.Carrier.{Carrier}
 use Rattle.yard.specs.Ranges.{minus, between}
 use Rattle.yard.specs.Free.{free}
 use Rattle.yard.specs.Step.{soundCarrier}
 use Rattle.yard.proofs.Cases.{passed, failed}
-use Rattle.yard.proofs.Signed.{read, got}
+use Rattle.yard.proofs.Signed.{got, test-is}
 use Rattle.yard.proofs.carrier.is_sound.Statement.{statement}
 use Rattle.yard.proofs.carrier.is_sound.Tie as tie
 
@@ -21,11 +18,6 @@ entry c = c .before .before .before .before .before .before
 abbrev the : tie.After-struct-told5 → Carrier
 the c = entry c .args .carrier
 
--- The test of a speed, of which the machine has its reading.
-speed-is : (z : ℤ) {r : Bool} → mag z < 2 ^ 31 → r ≡ between (minus 200) (read z) (pos 200)
-    → r ≡ between (minus 200) z (pos 200)
-speed-is z h e = e ∙ ap (λ s. between (minus 200) s (pos 200)) (got z h)
-
 -- What each call says.
 free-is : (c : tie.After-is-free) → let a = entry (c .before) .args in
     c .is-free .result ≡ free (a .yard) (a .cells .now) (a .size) (a .carrier .x) (a .carrier .y)
@@ -35,16 +27,22 @@ free-is c =
 
 u-is : (c : tie.After-is-between) →
     c .is-between .result ≡ between (minus 200) (the (c .before .before .before) .u) (pos 200)
-u-is c = speed-is (the (c .before .before .before) .u) (search needs) (c .is-between .ensures)
+u-is c =
+    let w = the (c .before .before .before) in
+    test-is (minus 200) (w .u) (pos 200) (search needs) (c .is-between .ensures)
 
 v-is : (c : tie.After-is-between2) → let w = the (c .before .before .before .before .before) in
     c .is-between2 .result ≡ between (minus 200) (w .v) (pos 200)
 v-is c =
     let w = the (c .before .before .before .before .before) in
-    speed-is (w .v) (search needs) (c .is-between2 .ensures)
+    test-is (minus 200) (w .v) (pos 200) (search needs) (c .is-between2 .ensures)
 
-lever-read : (c : tie.After-struct-told5) → read (the c .lever) ≡ the c .lever
-lever-read c = got (the c .lever) (search needs)
+lever-is : (c : tie.After-is-between3)
+    → let w = the (c .before .before .before .before .before .before .before) in
+    c .is-between3 .result ≡ between (pos 0) (w .lever) (pos 9)
+lever-is c =
+    let w = the (c .before .before .before .before .before .before .before) in
+    test-is (pos 0) (w .lever) (pos 9) (search needs) (c .is-between3 .ensures)
 
 is-free-requires : tie.Need-is-free-requires
 is-free-requires c κs = search needs
@@ -95,8 +93,7 @@ returns-4 c =
       passed (free-is (first .before)) (first .if1 .left),
       passed (u-is (second .before)) (second .if2 .left),
       passed (v-is (third .before)) (third .if3 .left),
-      c .is-between3 .ensures,
-      lever-read (first .before .before),
+      lever-is c,
     )
 
 pub is-sound-spec : {M : Type 1} → statement M

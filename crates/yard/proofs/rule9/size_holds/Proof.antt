@@ -1,11 +1,11 @@
 -- `size_holds` meets its contract: the width, then the height.
 use borrow.Author.Needs.{needs}
-use mathlib.Core.Path.{_≡_, sym, _∙_}
+use mathlib.Core.Path.{_≡_, sym, ap, _∙_}
 use lib.IntN.{pos}
 use Rattle.yard.specs.Ranges.{between}
 use Rattle.yard.specs.World.{word}
 use Rattle.yard.specs.Rule9.{sizeHolds}
-use Rattle.yard.proofs.Signed.{got}
+use Rattle.yard.proofs.Signed.{got, test-is}
 use Rattle.yard.proofs.rule9.size_holds.Statement.{statement}
 use Rattle.yard.proofs.rule9.size_holds.Tie as tie
 
@@ -25,7 +25,8 @@ w-is : (c : tie.After-is-between) → let a = c .before .before .before .args in
     c .is-between .result ≡ between (pos 1) (word (a .boxes .now) (a .i) 2) (pos 1024)
 w-is c =
     let w = c .before .before .word-of in
-    rw (c .is-between .ensures, got (w .result) (w .ok), w .ensures)
+    test-is (pos 1) (w .result) (pos 1024) (w .ok) (c .is-between .ensures)
+    ∙ ap (λ z. between (pos 1) z (pos 1024)) (w .ensures)
 
 returns : tie.Need-returns
 unfolding sizeHolds
