@@ -2,7 +2,7 @@
 -- exactly when.
 use Prim.Native.Nat.{ℕ}
 use mathlib.Core.Path.{_≡_, refl, sym, ap, _∙_, subst}
-use mathlib.Core.Logic.{_↔_}
+use mathlib.Core.Logic.{_↔_, _⊎_, inl, inr, ⊎-elim}
 use mathlib.Core.Bool.{Bool, true, false}
 use Rattle.basis.specs.Order.{Answer, refused, accepted, Order, check, give, answer, andThen}
 use Rattle.basis.specs.Order.{isAccepted, First, here, later, Passed, end, after}
@@ -65,6 +65,25 @@ module _ {A : Type 0} where
   of-passed end = refl
   of-passed (after p) = of-passed p
 
+  pub exactly-first : (test : Bool) (number : ℕ) (rest : Order A) (n : ℕ)
+      → First n (check test number rest)
+      ↔ (((test ≡ false) × (number ≡ n)) ⊎ ((test ≡ true) × First n rest))
+  exactly-first true number rest n = (
+    λ f. inr (refl, below f),
+    ⊎-elim (λ w. never refl (w .0)) (λ w. later (w .1)),
+  )
+    where
+      below : First n (check true number rest) → First n rest
+      below (later f) = f
+  exactly-first false number rest n = (
+    λ f. inl (refl, same f),
+    ⊎-elim (λ w. subst (λ k. First n (check false k rest)) (sym (w .1)) here)
+        (λ w. never (w .0) refl),
+  )
+    where
+      same : {k : ℕ} → First n (check false k rest) → k ≡ n
+      same here = refl
+
   pub exactly-number : (order : Order A) (n : ℕ) → (answer order ≡ refused n) ↔ First n order
   exactly-number order n = (first-of order n, of-first)
 
@@ -96,3 +115,22 @@ module _ {A B : Type 0} where
         → answer (andThen order next) ≡ answer (next a)
     unfolding onward
     goes-on e = then-answer order next ∙ ap (λ first. onward first next) e
+
+    pub exactly-further : (n : ℕ)
+        → First n (andThen order next)
+        ↔ (First n order ⊎ ((a : A) × Passed a order × First n (next a)))
+    exactly-further n = (
+      λ f. go (answer order) refl (exactly-number _ n .1 f),
+      ⊎-elim (λ f. exactly-number _ n .0 (stops (exactly-number order n .1 f)))
+          (λ w.
+          exactly-number _ n .0
+          (goes-on (exactly-result order (w .0) .1 (w .1)) ∙ exactly-number _ n .1 (w .2))),
+    )
+      where
+        go : (a : Answer A) → answer order ≡ a → answer (andThen order next) ≡ refused n
+            → First n order ⊎ ((a : A) × Passed a order × First n (next a))
+        go (refused m) e q =
+            let same : m ≡ n = cc (stops e) in
+            inl (exactly-number order n .0 (e ∙ ap refused same))
+        go (accepted a) e q =
+            inr (a, exactly-result order a .0 e, exactly-number _ n .0 (sym (goes-on e) ∙ q))

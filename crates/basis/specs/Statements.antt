@@ -1,16 +1,26 @@
 -- What is claimed of orders and of little-endian numbers; proofs/Statements.antt proves it.
 use Prim.Native.Nat.{ℕ, _<_, _^_}
 use mathlib.Core.Path.{_≡_}
-use mathlib.Core.Logic.{_↔_}
+use mathlib.Core.Logic.{_↔_, _⊎_}
+use mathlib.Core.Bool.{Bool, true, false}
 use mathlib.Core.List.{List}
 use lib.ListN.{length}
-use Rattle.basis.specs.Order.{refused, accepted, Order, answer, First, Passed}
+use Rattle.basis.specs.Order.{refused, accepted, Order, check, answer, First, Passed}
+use Rattle.basis.specs.Order.{andThen}
 use Rattle.basis.specs.LittleEndian.{valueOf, littleEndian, Bytes}
 
 -- 'each given exactly when its rule says' (demand 1), once over any order.
 pub record ExactlyWhen : Type 1 where
   -- A number comes back if and only if its test is the first of the order that fails.
   pub number : {A : Type 0} (order : Order A) (n : ℕ) → (answer order ≡ refused n) ↔ First n order
+  -- It is the first that fails: the top test fails and has it, or it passes and the rest decides.
+  pub first : {A : Type 0} (test : Bool) (number : ℕ) (rest : Order A) (n : ℕ)
+      → First n (check test number rest)
+      ↔ (((test ≡ false) × (number ≡ n)) ⊎ ((test ≡ true) × First n rest))
+  -- Of an order that goes on: the first part refuses, or it gives something and the rest refuses.
+  pub further : {A B : Type 0} (order : Order A) (next : A → Order B) (n : ℕ)
+      → First n (andThen order next)
+      ↔ (First n order ⊎ ((a : A) × Passed a order × First n (next a)))
   -- A call is accepted with this answer if and only if no test fails and this is given.
   pub result : {A : Type 0} (order : Order A) (a : A) → (answer order ≡ accepted a) ↔ Passed a order
 
