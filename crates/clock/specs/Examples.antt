@@ -9,7 +9,7 @@ use Rattle.clock.specs.Reading.{Given, readingOrder}
 use Rattle.clock.specs.History.{clockAfter, NoneRefused, NoLongGap}
 use Rattle.clock.specs.declared.Clock.{Clock}
 
--- The clock of a session that opened at 0.
+-- The clock of a session that opened at 0: its last reading, steps, remainder and cut time.
 abbrev pub clockAt : ℕ → ℕ → ℕ → ℕ → Clock
 clockAt last steps remainder cut =
     record { first = 0; last = last; remainder = remainder; cut = cut; steps = steps }
@@ -19,7 +19,7 @@ abbrev pub answerAfter : ℕ → ℕ → Answer Given
 answerAfter remainder gap =
     answer (readingOrder stepLength (clockAt remainder 0 remainder 0) (remainder + gap))
 
--- It is accepted: so many steps are due, and then this is the remainder, and this the cut time.
+-- It is accepted; then the last reading, the steps due, the remainder and the cut time are these.
 abbrev pub makes : ℕ → ℕ → ℕ → ℕ → Answer Given
 makes last steps remainder cut =
     accepted (record { clock = clockAt last steps remainder cut; due = steps })

@@ -233,7 +233,7 @@ pub record ShownBetween : Type 0 where
       → Between (session .clock .remainder)
       (carrier i (previous session l) .y) (carrier i (l .state) .y) (place .y)
 
--- The premises are met: the practice yard opens, with any first reading.
+-- The premise `Reached` is met: the practice yard opens, with any first reading.
 pub record SomeWorldOpens : Type 0 where
   pub opens : (first : ℕ) → (h : Handed) × Opened practice first h
 

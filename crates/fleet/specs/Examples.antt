@@ -1,4 +1,4 @@
--- Document 01, 'The program': the practice yard, of which all premises here hold.
+-- Document 01, 'The program': the practice yard, which fits what the functions are given.
 use Prim.Native.Nat.{ℕ}
 use mathlib.Core.List.{List, [], _∷_}
 use lib.IntN.{pos}
@@ -21,7 +21,7 @@ twoRecords =
     0 ∷ 0 ∷ 0 ∷ 0 ∷ 0 ∷ 1 ∷ 0 ∷ 0
     ∷ 2 ∷ 0 ∷ 0 ∷ 0 ∷ 0 ∷ 9 ∷ 0 ∷ 0 ∷ []
 
--- No premise here is empty: the practice yard and a log for it fit.
+-- `WorldFits`, `LogFits` and `StateFits` are met: by this yard, a log for it, and its start.
 pub record Practice : Type 0 where
   -- The world and the log fit, and the start is sound.
   pub world : WorldFits practice

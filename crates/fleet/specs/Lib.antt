@@ -3,7 +3,7 @@
 --   Step        one step of all carriers in number order, under the levers held at it
 --   Run         steps one after the other, without saved rows and with them
 --   Fits        what the functions over a world, a log and the buffers are given
---   Examples    the practice yard, of which all premises here hold
+--   Examples    the practice yard, which fits what the functions are given
 --   Statements  what is claimed of these; proofs/Statements.antt has a proof of each
 --   Cursor      for contracts of parts only: where the cursor of a step goes
 pub mod State

@@ -5,7 +5,7 @@ use lib.ListN.{length}
 use Rattle.rerun.specs.declared.input.Input.{Input}
 use Rattle.rerun.specs.declared.input.Input.the-variants as input
 
--- Never more than the buffer holds; nothing is said of a read that fails.
+-- Never more than the buffer holds. Which bytes they are isn't said, nor anything of a failed read.
 abbrev pub ReadIn : Input → List ℕ → Type 0
 ReadIn (input.Read n) buffer = n ≤ length buffer
 ReadIn input.Failed buffer = Unit {0}

@@ -33,7 +33,7 @@ pub record Determined : Type 0 where
 pub record Coordinate (length : ℕ) (p c : ℤ) : Type 0 where
   -- 'it equals p when the remainder is 0'
   pub start : blendOf length p c 0 ≡ whole p
-  -- 'or p equals c', whatever the remainder.
+  -- 'or p equals c', whatever u32 the remainder is.
   pub rest : (remainder : ℕ) → Fits w32 remainder → p ≡ c → blendOf length p c remainder ≡ whole p
   -- 'It lies between p and c, ends allowed', for any remainder below the length.
   pub between : (remainder : ℕ) → remainder < length
