@@ -3,7 +3,7 @@
 --   Ticks       the fresh clock, the clock after a reading, the steps due
 --   Readings    the four outcomes of a reading, each exactly when
 --   Histories   a list of readings: soundness, the accepted ones, cut time, grouping
---   Examples    examples A to D
+--   Examples    readings to which grouping applies
 --   Statements  the statements of specs/Statements.antt
 pub mod Sound
 pub mod Ticks

@@ -4,12 +4,13 @@ use mathlib.Core.Path.{_≡_, refl, ap, subst, _∙_}
 use mathlib.Core.Logic.{_↔_}
 use mathlib.Core.Bool.{Bool, true, false}
 use native.Mathlib.Omega.{arith}
+use lib.Dec.{leb}
 use borrow.Author.Tests.{leb-true, leb-false, le-leb, lt-leb}
 use Rattle.basis.specs.Numbers.{BACKWARD, END, FAULT, mostSteps}
 use Rattle.basis.specs.Order.{Answer, refused, accepted, check, give, answer}
 use Rattle.basis.proofs.Order.{passes, fails, gives}
 use Rattle.clock.specs.Clock.{due, soundClock}
-use Rattle.clock.specs.Reading.{Given, givenBy, notBackward, notPastEnd, readingOrder}
+use Rattle.clock.specs.Reading.{Given, givenBy, readingOrder}
 use Rattle.clock.specs.declared.Clock.{Clock}
 use Rattle.clock.proofs.Sound.{sound-says}
 use Rattle.clock.proofs.Ticks.{equal-due, equal-ticked}
@@ -42,8 +43,8 @@ module _ (length : ℕ) (clock : Clock) (reading : ℕ) where
   unfolding readingOrder answer
   outcome-of = go _ _ _ refl refl refl
     where
-      go : (s f w : Bool) → soundClock length clock ≡ s → notBackward clock reading ≡ f
-          → notPastEnd length clock reading ≡ w
+      go : (s f w : Bool) → soundClock length clock ≡ s → leb (clock .last) reading ≡ f
+          → leb (clock .steps + due length clock reading) mostSteps ≡ w
           → Outcome
           (answer
           (check s FAULT (check f BACKWARD (check w END (give (givenBy length clock reading))))))

@@ -2,12 +2,11 @@
 use Prim.Native.Nat.{ℕ, _+_, _-_, _*_, _≤_, _<_}
 use mathlib.Core.Path.{_≡_, refl, sym}
 use mathlib.Core.Logic.{_↔_}
-use mathlib.Core.Bool.{Bool, true, false, _&&_}
+use mathlib.Core.Bool.{Bool, true, false}
 use native.Mathlib.Omega.{arith}
-use borrow.Author.Tests.{ltb-true, leb-true, eqb-true, lt-ltb, le-leb, eq-eqb}
-use Rattle.basis.proofs.Tests.{and-left, and-right, and-both}
+use Rattle.basis.proofs.Tests.{says-le, says-lt, says-eq, says-three}
 use Rattle.basis.specs.Numbers.{mostSteps}
-use Rattle.clock.specs.Clock.{soundClock, remainderBelow, stepsWithin, timeEquation}
+use Rattle.clock.specs.Clock.{soundClock}
 use Rattle.clock.specs.declared.Clock.{Clock}
 
 -- What the three tests say, as facts.
@@ -20,20 +19,13 @@ module _ {length : ℕ} {clock : Clock} where
   pub sound-says : soundClock length clock ≡ true → Sound length clock
   unfolding soundClock
   sound-says e =
-      let limits : (remainderBelow length clock && stepsWithin clock) ≡ true =
-      and-left _ (timeEquation length clock) e in
-      record {
-        remainder = ltb-true _ _ (and-left _ (stepsWithin clock) limits);
-        steps = leb-true _ _ (and-right (remainderBelow length clock) _ limits);
-        time = eqb-true _ _ (and-right (remainderBelow length clock && stepsWithin clock) _ e);
-      }
+      let h = says-three (says-lt _ _) (says-le _ _) (says-eq _ _) .0 e in
+      record { remainder = h .0; steps = h .1; time = h .2 }
 
   pub is-sound : Sound length clock → soundClock length clock ≡ true
   unfolding soundClock
   is-sound s =
-      and-both
-      (and-both (lt-ltb _ _ (s .remainder)) (le-leb _ _ (s .steps)))
-      (eq-eqb _ _ (s .time))
+      says-three (says-lt _ _) (says-le _ _) (says-eq _ _) .1 (s .remainder, s .steps, s .time)
 
   pub not-sound : (Sound length clock → ⊥) → soundClock length clock ≡ false
   not-sound broken = go (soundClock length clock) refl

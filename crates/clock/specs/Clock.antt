@@ -45,23 +45,11 @@ ticked length clock reading =
 abbrev pub mostDue : ℕ → ℕ
 mostDue length = (length - 1 + longestGap) / length
 
--- 'the new remainder (below 20,000)'
-abbrev pub remainderBelow : ℕ → Clock → Bool
-remainderBelow length clock = ltb (clock .remainder) length
-
--- 'A session makes at most 180,000.'
-abbrev pub stepsWithin : Clock → Bool
-stepsWithin clock = leb (clock .steps) mostSteps
-
--- 'last reading minus first reading equals 20,000·steps plus remainder plus cut time'; the first
+-- '*Sound* means: .. steps, remainder .. within their limits; the time equation holds', which is
+-- 'last reading minus first reading equals 20,000·steps plus remainder plus cut time'. The first
 -- reading stands on the right, so that one above the last is never equal.
-abbrev pub timeEquation : ℕ → Clock → Bool
-timeEquation length clock =
-    eqb (clock .last) (clock .first + (length * clock .steps + clock .remainder + clock .cut))
-
--- '*Sound* means: .. steps, remainder .. within their limits; the time equation holds'
 unfoldable pub soundClock : ℕ → Clock → Bool
 soundClock length clock =
-    remainderBelow length clock
-    && stepsWithin clock
-    && timeEquation length clock
+    ltb (clock .remainder) length
+    && leb (clock .steps) mostSteps
+    && eqb (clock .last) (clock .first + (length * clock .steps + clock .remainder + clock .cut))

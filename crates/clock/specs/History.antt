@@ -23,10 +23,8 @@ kept (refused number) reading later = later
 unfoldable pub acceptedOf : ℕ → Clock → List ℕ → List ℕ
 acceptedOf length clock [] = []
 acceptedOf length clock (reading ∷ later) =
-    kept
-    (answer (readingOrder length clock reading))
-    reading
-    (acceptedOf length (clockLeft clock (answer (readingOrder length clock reading))) later)
+    let given : Answer Given = answer (readingOrder length clock reading) in
+    kept given reading (acceptedOf length (clockLeft clock given) later)
 
 -- The clock of a session that opened with a first reading, after a history.
 abbrev pub clockAfter : ℕ → ℕ → List ℕ → Clock

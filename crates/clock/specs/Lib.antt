@@ -2,7 +2,7 @@
 --   Clock       the fresh clock; gap, used, pool; the steps due; the clock after a reading; sound
 --   Reading     the order of refusals of a reading, and what an accepted one gives
 --   History     the clock after a list of readings, the accepted ones among them, their cut time
---   Examples    examples A to D, and readings to which grouping applies
+--   Examples    readings to which grouping applies
 --   Statements  what is claimed of these; proofs/Statements.antt has a proof of each
 pub mod Clock
 pub mod Reading

@@ -1,6 +1,5 @@
 -- Document 01, 'Numbers given back' and 'Order', of a reading.
 use Prim.Native.Nat.{ℕ, _+_}
-use mathlib.Core.Bool.{Bool}
 use lib.Dec.{leb}
 use Rattle.basis.specs.Numbers.{BACKWARD, END, FAULT, mostSteps}
 use Rattle.basis.specs.Order.{Answer, refused, accepted, Order, check, give}
@@ -19,20 +18,12 @@ abbrev pub givenBy : ℕ → Clock → ℕ → Given
 givenBy length clock reading =
     record { clock = ticked length clock reading; due = due length clock reading }
 
--- 11 where this fails: 'reading below the last reading'
-abbrev pub notBackward : Clock → ℕ → Bool
-notBackward clock reading = leb (clock .last) reading
-
--- 12 where this fails: 'steps made plus the steps due would pass 180,000'
-abbrev pub notPastEnd : ℕ → Clock → ℕ → Bool
-notPastEnd length clock reading = leb (clock .steps + due length clock reading) mostSteps
-
 -- 'Reading: 14, 11, 12.' Of 14 the clock's own share: its words are sound.
 unfoldable pub readingOrder : ℕ → Clock → ℕ → Order Given
 readingOrder length clock reading =
     check (soundClock length clock) FAULT
-    (check (notBackward clock reading) BACKWARD
-    (check (notPastEnd length clock reading) END
+    (check (leb (clock .last) reading) BACKWARD
+    (check (leb (clock .steps + due length clock reading) mostSteps) END
     (give (givenBy length clock reading))))
 
 -- The number, or the values, of each case of the code's answer.

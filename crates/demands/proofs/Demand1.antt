@@ -17,9 +17,9 @@ use Rattle.session.specs.declared.Delivered.the-variants as delivered
 use Rattle.session.specs.declared.Replayed.the-variants as replayed
 use Rattle.session.specs.declared.Digested.{Digested}
 use Rattle.session.specs.declared.Digested.the-variants as digested
-use Rattle.session.specs.Lent.{Lent, made, Made, leaves}
+use Rattle.session.specs.Lent.{Lent, made, Made, leaves, filled}
 use Rattle.session.specs.Calls.{taken, held}
-use Rattle.session.specs.Answers.{runningOf, deliveredOf, digestedOf, replayLeft, replay}
+use Rattle.session.specs.Answers.{runningOf, deliveredOf, digestedOf, replay}
 use Rattle.session.proofs.Deliveries.{at-place, bytes-read}
 use Rattle.demands.specs.Statements.{OneOutcome, FirstFails, Determined, ExactlyWhen}
 
@@ -71,8 +71,8 @@ determined =
       opening = λ yard reading l. one-outcome runningOf running-one _;
       reading = λ session t l. one-outcome runningOf running-one _;
       deliver = λ session bytes l. one-outcome deliveredOf delivered-one _;
-      replay = λ yard steps cells boxes before log a b s t x y.
-          (ap (λ l. l .answer) (x ∙ sym y), ap (λ l. l .state) (x ∙ sym y));
+      replay = λ yard steps cells boxes state log a b s t x y.
+          (ap (λ l. l .answer) (x ∙ sym y), ap (λ l. l .out) (x ∙ sym y));
       digest = λ session l a b x y. digested-one a b (x ∙ sym y);
       shown = λ session i l a b x y. shownDetermined .answer a b (x ∙ sym y);
     }
@@ -93,13 +93,13 @@ refused-left {A} l order n = (
     go (accepted m) e = apart (sym (ap (λ x. x .result) e))
 
 replay-left : (state : List ℤ) (order : Order (List ℤ)) (n : ℕ)
-    → (replay state (answer order) ≡ replayLeft (replayed.Refused n) state) ↔ First n order
+    → (replay state (answer order) ≡ filled (replayed.Refused n) state) ↔ First n order
 replay-left state order n = (
   λ e. exactly-number order n .0 (go (answer order) e),
   λ f. ap (replay state) (exactly-number order n .1 f),
 )
   where
-    go : (a : Answer (List ℤ)) → replay state a ≡ replayLeft (replayed.Refused n) state
+    go : (a : Answer (List ℤ)) → replay state a ≡ filled (replayed.Refused n) state
         → a ≡ refused n
     go (refused m) e = ap refused (cc (ap (λ x. x .answer) e))
     go (accepted m) e = cc (ap (λ x. x .answer) e)

@@ -6,6 +6,7 @@
 --   Demand2     the state, its rows, its log, its digest, its replay
 --   Shown       the shown place of any session lies between previous and present place
 --   Demand3     two sessions of one world
+--   Lettered    the lettered examples, computed
 --   Statements  the statements of specs/Statements.antt
 pub mod Model
 pub mod Ties
@@ -14,4 +15,5 @@ pub mod Demand1
 pub mod Demand2
 pub mod Shown
 pub mod Demand3
+pub mod Lettered
 pub mod Statements

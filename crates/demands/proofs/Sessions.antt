@@ -14,10 +14,10 @@ use Rattle.course.specs.Calls.{answerTo, left, next as modelNext, run as modelR
 use Rattle.course.specs.Calls.{Reached as ModelReached}
 use Rattle.course.proofs.Kept.{Kept, kept-opening, kept-next, kept-run}
 use Rattle.course.proofs.Words.{flatten-replicate}
-use Rattle.session.specs.Lent.{Lent, lent, leaves}
+use Rattle.session.specs.Lent.{Lent, lent}
 use Rattle.session.proofs.Room.{room-says}
 use Rattle.session.proofs.Openings.{opened-says}
-use Rattle.demands.specs.Handed.{Handed, lentIn, standing, next, afterCalls}
+use Rattle.demands.specs.Handed.{Handed, handsOn, next, afterCalls}
 use Rattle.demands.specs.Handed.{Opened, Reached}
 use Rattle.demands.proofs.Model.{Opens, model, lawful}
 use Rattle.demands.proofs.Ties.{handed, mapped, asRead, asDelivered}
@@ -32,8 +32,7 @@ module _ (world : World) (opens : Opens world) where
       rw (same-reading world opens s k t) (go (answerTo s (reading t)))
     where
       go : (a : Answer (Outcome (model world)))
-          → standing (λ session. session) (handed world s .result)
-          (leaves (lentIn world (handed world s)) (mapped (asRead world opens s k) a))
+          → handsOn (λ session. session) (handed world s) (mapped (asRead world opens s k) a)
           ≡ handed world (left s a)
       go (accepted (read new)) = refl
       go (accepted (taken new)) = refl
@@ -43,8 +42,7 @@ module _ (world : World) (opens : Opens world) where
       rw (same-delivery world opens s k bytes) (go (answerTo s (delivery bytes)))
     where
       go : (a : Answer (Outcome (model world)))
-          → standing (λ d. d .session) (handed world s .result)
-          (leaves (lentIn world (handed world s)) (mapped (asDelivered world opens s k) a))
+          → handsOn (λ d. d .session) (handed world s) (mapped (asDelivered world opens s k) a)
           ≡ handed world (left s a)
       go (accepted (read new)) = refl
       go (accepted (taken new)) = refl

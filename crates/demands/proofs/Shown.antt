@@ -49,12 +49,9 @@ coordinate remainder p c h P C =
 
 module _ (session : Session) (l : Lent) (i : ℕ) (place : Place)
     (e : answer (shownOrder session l i) ≡ accepted place) where
-  both : Between (session .clock .remainder)
-      (carrier i (previous session l) .x) (carrier i (l .state) .x) (place .x)
-      × Between (session .clock .remainder)
-      (carrier i (previous session l) .y) (carrier i (l .state) .y) (place .y)
+  pub shown : ShownBetween session l i place
   unfolding shownOrder shownOf shownPlace
-  both =
+  shown =
       let (s, e₁) = held _ _ _ e in
       let (below, e₂) = held _ _ _ e₁ in
       let (row, e₃) = held _ _ _ e₂ in
@@ -63,11 +60,5 @@ module _ (session : Session) (l : Lent) (i : ℕ) (place : Place)
       let fits = place-fits (worldIn session l) (world-fits session l g) in
       let p = fits (previous session l) row i (ltb-true _ _ below) in
       let c = fits (l .state) (g .state) i (ltb-true _ _ below) in
-      rw (← given _ e₃) (coordinate _ _ _ h (p .0) (c .0), coordinate _ _ _ h (p .1) (c .1))
-
-pub shown : ShownBetween
-shown =
-    record {
-      x = λ session l i place e. both session l i place e .0;
-      y = λ session l i place e. both session l i place e .1;
-    }
+      rw (← given _ e₃)
+      (record { x = coordinate _ _ _ h (p .0) (c .0); y = coordinate _ _ _ h (p .1) (c .1) })

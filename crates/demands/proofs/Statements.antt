@@ -10,9 +10,6 @@ use lib.ListN.{replicate, length-replicate}
 use Rattle.basis.specs.Order.{answer, accepted}
 use Rattle.basis.proofs.Tests.{and-both}
 use Rattle.record.specs.Held.{bufferSize}
-use Rattle.record.proofs.Examples.{exampleL}
-use Rattle.clock.proofs.Examples.{exampleA, exampleB, exampleC, exampleD}
-use Rattle.yard.proofs.Examples.{examples}
 use Rattle.yard.specs.Free.{wall, share, covers, noWall, free}
 use Rattle.yard.specs.Ranges.{between, every}
 use Rattle.yard.specs.Rule9.{rangesHold, cellsHold, sizeHolds, sizesHold, startHolds, startsHold}
@@ -28,13 +25,14 @@ use Rattle.course.specs.Calls.{Call}
 use Rattle.course.proofs.Statements.{course}
 use Rattle.course.proofs.Levers.{earlier-lever}
 use Rattle.demands.specs.Handed.{Handed, Reached}
-use Rattle.demands.specs.Statements.{Demand2, Time, SomeWorldOpens, Lettered, Demands}
+use Rattle.demands.specs.Statements.{Demand2, Time, SomeWorldOpens, Demands}
 use Rattle.demands.proofs.Model.{model, lawful}
 use Rattle.demands.proofs.Sessions.{modelled}
 use Rattle.demands.proofs.Demand1.{determined, exactlyWhen}
 use Rattle.demands.proofs.Demand2.{demand2}
 use Rattle.demands.proofs.Shown.{shown}
 use Rattle.demands.proofs.Demand3.{demand3}
+use Rattle.demands.proofs.Lettered.{lettered}
 
 module _ (world : World) (first : ℕ) (calls : List Call) (h : Handed)
     (r : Reached world first calls h) where
@@ -79,23 +77,6 @@ met =
           accepts = open-gives (practice .yard) first blank fair;
         },
       );
-    }
-
-lettered : Lettered
-lettered =
-    record {
-      a = exampleA;
-      b = exampleB;
-      c = exampleC;
-      d = exampleD;
-      e = examples .0;
-      f = examples .1;
-      g = examples .2;
-      h = examples .3;
-      i = examples .4;
-      j = examples .5;
-      k = examples .6;
-      l = exampleL;
     }
 
 pub demands : Demands

@@ -12,7 +12,7 @@ use Rattle.fleet.specs.State.{World, startState}
 use Rattle.fleet.specs.Run.{run}
 use Rattle.course.specs.Calls.{Call, reading, delivery}
 use Rattle.session.specs.declared.Session.{Session}
-use Rattle.session.specs.Lent.{Lent, lent, Made, leaves}
+use Rattle.session.specs.Lent.{Lent, lent, Made, made, leaves}
 use Rattle.session.specs.Calls.{openOrder, readingOrder, deliverOrder, Delivery}
 
 -- What is handed from call to call: the session, and the state, rows and log as they stand.
@@ -23,36 +23,22 @@ Handed = Made Session
 abbrev pub lentIn : World → Handed → Lent
 lentIn world h = lent (world .cells) (world .boxes) (h .state) (h .rows) (h .log)
 
--- The session after an answer: the one given; a refusal leaves it as it was.
-abbrev pub sessionLeft : {A : Type 0} → (A → Session) → Session → Answer A → Session
-sessionLeft given before (accepted a) = given a
-sessionLeft given before (refused number) = before
+-- What an answer hands on: its session and the buffers that it makes; a refusal all as it was.
+abbrev pub handsOn : {A : Type 0} → (A → Session) → Handed → Answer (Made A) → Handed
+handsOn sessionOf h (accepted m) = made (sessionOf (m .result)) (m .state) (m .rows) (m .log)
+handsOn sessionOf h (refused number) = h
 
--- What a call hands on: the session after its answer, and the buffers as it left them.
-abbrev pub standing : {A : Type 0} → (A → Session) → Session → Made (Answer A) → Handed
-standing given before call =
-    record {
-      result = sessionLeft given before (call .result);
-      state = call .state;
-      rows = call .rows;
-      log = call .log;
-    }
-
--- What a reading leaves: the right side of its contract.
-abbrev pub readingLeaves : World → Handed → ℕ → Made (Answer Session)
-readingLeaves world h t =
-    leaves (lentIn world h) (answer (readingOrder (h .result) (lentIn world h) t))
-
--- What a delivery leaves, in the same way.
+-- What a delivery leaves: the right side of its contract.
 abbrev pub deliveryLeaves : World → Handed → List ℕ → Made (Answer Delivery)
 deliveryLeaves world h bytes =
     leaves (lentIn world h) (answer (deliverOrder (h .result) (lentIn world h) bytes))
 
 -- What a call hands on.
 unfoldable pub next : World → Handed → Call → Handed
-next world h (reading t) = standing (λ session. session) (h .result) (readingLeaves world h t)
+next world h (reading t) =
+    handsOn (λ session. session) h (answer (readingOrder (h .result) (lentIn world h) t))
 next world h (delivery bytes) =
-    standing (λ d. d .session) (h .result) (deliveryLeaves world h bytes)
+    handsOn (λ d. d .session) h (answer (deliverOrder (h .result) (lentIn world h) bytes))
 
 -- 'each call given what the last one left'
 unfoldable pub afterCalls : World → Handed → List Call → Handed

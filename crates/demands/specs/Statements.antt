@@ -15,18 +15,14 @@ use Rattle.record.specs.Log.{ascending}
 use Rattle.record.specs.Held.{bufferOf}
 use Rattle.record.specs.Place.{AtPlace}
 use Rattle.record.specs.Part.{earlier}
-use Rattle.record.specs.Examples.{ExampleL}
 use Rattle.record.specs.declared.bytes.Record.{Record}
 use Rattle.clock.specs.History.{clockAfter, acceptedAfter, lastOf, NoneRefused, NoLongGap}
 use Rattle.clock.specs.Statements.{FromOpening}
-use Rattle.clock.specs.Examples.{ExampleA, ExampleB, ExampleC, ExampleD}
 use Rattle.digest.specs.Fnv.{digestOf}
 use Rattle.digest.specs.Words.{stateBytes}
 use Rattle.shown.specs.Blend.{whole, isBetween}
 use Rattle.shown.specs.Answer.{shownPlace, answerOf}
 use Rattle.shown.specs.declared.Place.{Place}
-use Rattle.yard.specs.Examples.{ExampleE, ExampleF, ExampleG, ExampleH, ExampleI, ExampleJ}
-use Rattle.yard.specs.Examples.{ExampleK}
 use Rattle.yard.specs.declared.world.Yard.{Yard}
 use Rattle.yard.specs.declared.carrier.Carrier.{Carrier}
 use Rattle.fleet.specs.State.{World, stateWords, carrier}
@@ -34,15 +30,15 @@ use Rattle.fleet.specs.Run.{rowOf}
 use Rattle.fleet.specs.Examples.{practice}
 use Rattle.course.specs.Calls.{Call, delivery, readingsOf}
 use Rattle.session.specs.declared.Session.{Session}
-use Rattle.session.specs.declared.Replayed.{Replayed}
 use Rattle.session.specs.declared.Replayed.the-variants as replayed
-use Rattle.session.specs.Lent.{Lent, Made, made, leaves}
+use Rattle.session.specs.Lent.{Lent, Made, made, leaves, filled, OneFilled}
 use Rattle.session.specs.Sound.{sound}
 use Rattle.session.specs.Calls.{openOrder, readingOrder, deliverOrder, replayOrder, digestOrder}
 use Rattle.session.specs.Calls.{shownOrder, previous, taken, held, foundIn, unchanged, takeIn}
-use Rattle.session.specs.Answers.{runningOf, deliveredOf, digestedOf, replayLeft, replay}
+use Rattle.session.specs.Answers.{runningOf, deliveredOf, digestedOf, replay}
 use Rattle.demands.specs.Handed.{Handed, lentIn, deliveryLeaves, next, afterCalls, Opened}
 use Rattle.demands.specs.Handed.{Reached, stepsMade, heldBy, moved}
+use Rattle.demands.specs.Lettered.{Lettered}
 
 -- Any two outcomes of which a contract says that they come to this are the same: the answer, and
 -- what the call leaves in the buffers that it may change.
@@ -68,11 +64,8 @@ pub record Determined : Type 0 where
   pub deliver : (session : Session) (bytes : List ℕ) (l : Lent)
       → OneOutcome deliveredOf (leaves l (answer (deliverOrder session l bytes)))
   -- `replay`
-  pub replay : (yard : Yard) (steps : ℕ) (cells : List ℕ) (boxes before : List ℤ) (log : List ℕ)
-      (a b : Replayed) (state state′ : List ℤ)
-      → replayLeft a state ≡ replay before (answer (replayOrder yard steps cells boxes before log))
-      → replayLeft b state′ ≡ replay before (answer (replayOrder yard steps cells boxes before log))
-      → (a ≡ b) × (state ≡ state′)
+  pub replay : (yard : Yard) (steps : ℕ) (cells : List ℕ) (boxes state : List ℤ) (log : List ℕ)
+      → OneFilled (replay state (answer (replayOrder yard steps cells boxes state log)))
   -- `digest`
   pub digest : (session : Session) (l : Lent)
       → OneAnswer digestedOf (answer (digestOrder session l))
@@ -106,7 +99,7 @@ pub record ExactlyWhen : Type 0 where
   pub replay : (yard : Yard) (steps : ℕ) (cells : List ℕ) (boxes state : List ℤ) (log : List ℕ)
       (n : ℕ)
       → (replay state (answer (replayOrder yard steps cells boxes state log))
-      ≡ replayLeft (replayed.Refused n) state)
+      ≡ filled (replayed.Refused n) state)
       ↔ First n (replayOrder yard steps cells boxes state log)
   -- The digest: 'Unsound: 14.'
   pub digest : (session : Session) (l : Lent) (n : ℕ)
@@ -222,47 +215,16 @@ pub record Between (remainder : ℕ) (p c : ℤ) (shown : Float) : Type 0 where
   pub start : remainder ≡ 0 → shown ≡ whole p
   pub rest : p ≡ c → shown ≡ whole p
 
--- The shown place of a carrier, of any session: from the state before the last step to the state.
-pub record ShownBetween : Type 0 where
-  pub x : (session : Session) (l : Lent) (i : ℕ) (place : Place)
-      → answer (shownOrder session l i) ≡ accepted place
-      → Between (session .clock .remainder)
+-- The shown place of carrier i: from the state before the last step to the state.
+pub record ShownBetween (session : Session) (l : Lent) (i : ℕ) (place : Place) : Type 0 where
+  pub x : Between (session .clock .remainder)
       (carrier i (previous session l) .x) (carrier i (l .state) .x) (place .x)
-  pub y : (session : Session) (l : Lent) (i : ℕ) (place : Place)
-      → answer (shownOrder session l i) ≡ accepted place
-      → Between (session .clock .remainder)
+  pub y : Between (session .clock .remainder)
       (carrier i (previous session l) .y) (carrier i (l .state) .y) (place .y)
 
 -- The premise `Reached` is met: the practice yard opens, with any first reading.
 pub record SomeWorldOpens : Type 0 where
   pub opens : (first : ℕ) → (h : Handed) × Opened practice first h
-
--- 'Those with a letter are proved, as a single table under a single statement, of the definitions.'
-pub record Lettered : Type 0 where
-  -- 'remainder 0, gap 19,999: 0 steps, remainder 19,999'
-  pub a : ExampleA
-  -- 'gap 20,000: 1 step, remainder 0'
-  pub b : ExampleB
-  -- 'remainder 19,999, gap 250,000: 13 steps, remainder 9,999'
-  pub c : ExampleC
-  -- 'remainder 0, gap 250,001: 12 steps, remainder 10,000, cut 1'
-  pub d : ExampleD
-  -- 'from rest, lever 1: u 12, x grows by 12'
-  pub e : ExampleE
-  -- 'u 195, lever 1: 200'
-  pub f : ExampleF
-  -- 'brake on -3 gives -1, on 1 gives 0'
-  pub g : ExampleG
-  -- 'practice yard, carrier at (500, 256), u 0, lever 1: x 512, u 12'
-  pub h : ExampleH
-  -- 'next step: x 512, u 0'
-  pub i : ExampleI
-  -- 'carrier at (5, 256), u 0, lever 5: x 0, u 0'
-  pub j : ExampleJ
-  -- '3 by 3 yard ..; 256 by 256 carrier at rest at (256, 256), lever 2: (264, 256), u 8, v 0'
-  pub k : ExampleK
-  -- 'step 258, carrier 3, lever 9 is bytes 2, 1, 0, 0, 3, 9, 0, 0'
-  pub l : ExampleL
 
 -- All of it.
 pub record Demands : Type 0 where
@@ -278,7 +240,8 @@ pub record Demands : Type 0 where
   pub later : (world : World) (n : ℕ) (records : List Record)
       → moved world n (earlier n records) ≡ moved world n records
   -- Where a carrier is shown, of any session.
-  pub shown : ShownBetween
+  pub shown : (session : Session) (l : Lent) (i : ℕ) (place : Place)
+      → answer (shownOrder session l i) ≡ accepted place → ShownBetween session l i place
   -- Demand 3, of sessions from opening on, on every world.
   pub demand3 : (world : World) → Demand3 world
   pub met : SomeWorldOpens

@@ -20,9 +20,13 @@ pub same-words : (i k : ℕ) (a b : List ℤ)
     → carrier i a ≡ carrier k b
 unfolding carrier
 same-words i k a b same =
-    let x : getD a (5 * i) (pos 0) ≡ getD b (5 * k) (pos 0) =
-    rw (add-zero (5 * i), add-zero (5 * k)) at (same 0 (omega arith)) in
-    rw (x, same 1 (omega arith), same 2 (omega arith), same 3 (omega arith), same 4 (omega arith))
+    rw (
+      same 0 (omega arith),
+      same 1 (omega arith),
+      same 2 (omega arith),
+      same 3 (omega arith),
+      same 4 (omega arith),
+    )
 
 pub carrier-is : (i : ℕ) (c : Carrier) (state : List ℤ)
     → ((j : ℕ) → j < 5 → getD state (5 * i + j) (pos 0) ≡ getD (wordsOf c) j (pos 0))
@@ -33,7 +37,7 @@ carrier-is i c state words = same-words i 0 state (wordsOf c) (λ j h. rw zero-a
 words-back : (i k : ℕ) (state : List ℤ) → k < 5
     → getD (wordsOf (carrier i state)) k (pos 0) ≡ getD state (5 * i + k) (pos 0)
 unfolding carrier wordsOf
-words-back i zero state h = rw (add-zero (5 * i))
+words-back i zero state h = refl
 words-back i (suc zero) state h = refl
 words-back i (suc (suc zero)) state h = refl
 words-back i (suc (suc (suc zero))) state h = refl

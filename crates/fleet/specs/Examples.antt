@@ -2,18 +2,21 @@
 use Prim.Native.Nat.{ℕ}
 use mathlib.Core.List.{List, [], _∷_}
 use lib.IntN.{pos}
-use Rattle.yard.specs.Examples.{practiceYard, practiceCells}
-use Rattle.fleet.specs.State.{World, startState}
+use Rattle.fleet.specs.State.{World, worldOf, startState}
 use Rattle.fleet.specs.Fits.{WorldFits, LogFits, StateFits}
 
--- 'one carrier 256 by 256 at (0, 256)'
+-- 'the only wall at column 3, row 1', row by row.
+abbrev pub practiceCells : List ℕ
+practiceCells =
+    0 ∷ 0 ∷ 0 ∷ 0
+    ∷ 0 ∷ 0 ∷ 0 ∷ 1
+    ∷ 0 ∷ 0 ∷ 0 ∷ 0 ∷ []
+
+-- 'the practice yard: W 4, H 3', 'one carrier 256 by 256 at (0, 256)'
 abbrev pub practice : World
 practice =
-    record {
-      yard = practiceYard;
-      cells = practiceCells;
-      boxes = pos 0 ∷ pos 256 ∷ pos 256 ∷ pos 256 ∷ [];
-    }
+    worldOf (record { w = 4; h = 3; b = 1 }) practiceCells
+    (pos 0 ∷ pos 256 ∷ pos 256 ∷ pos 256 ∷ [])
 
 -- 'records (0, 0, 1) and (2, 0, 9)', their bytes.
 abbrev pub twoRecords : List ℕ

@@ -33,13 +33,8 @@ stateWords world = carrierWords * world .yard .b
 -- 'in carrier order: x, y, speed u along x, speed v along y, lever': carrier i of a state.
 unfoldable pub carrier : ℕ → List ℤ → Carrier
 carrier i state =
-    record {
-      x = getD state (carrierWords * i) (pos 0);
-      y = getD state (carrierWords * i + 1) (pos 0);
-      u = getD state (carrierWords * i + 2) (pos 0);
-      v = getD state (carrierWords * i + 3) (pos 0);
-      lever = getD state (carrierWords * i + 4) (pos 0);
-    }
+    let at : ℕ → ℤ = λ k. getD state (carrierWords * i + k) (pos 0) in
+    record { x = at 0; y = at 1; u = at 2; v = at 3; lever = at 4 }
 
 -- The same words, from the carrier.
 unfoldable pub wordsOf : Carrier → List ℤ

@@ -1,5 +1,6 @@
 -- What a call is lent, what it leaves of it, and the world and the records that they hold.
 use Prim.Native.Nat.{ℕ}
+use mathlib.Core.Path.{_≡_}
 use mathlib.Core.List.{List}
 use lib.IntN.{ℤ}
 use Rattle.basis.specs.Order.{Answer, refused, accepted}
@@ -44,3 +45,23 @@ made result state rows log = record { result = result; state = state; rows = row
 abbrev pub leaves : {A : Type 0} → Lent → Answer (Made A) → Made (Answer A)
 leaves l (refused number) = made (refused number) (l .state) (l .rows) (l .log)
 leaves l (accepted m) = made (accepted (m .result)) (m .state) (m .rows) (m .log)
+
+-- What a call that may change one slice alone answers, and what it leaves there.
+pub record Filled (A B : Type 0) : Type 0 where
+  pub answer : A
+  pub out : List B
+
+-- The two, as one.
+abbrev pub filled : {A B : Type 0} → A → List B → Filled A B
+filled answer out = record { answer = answer; out = out }
+
+-- A refusal leaves the slice 'as before'; an accepted call fills it, and answers that it was done.
+abbrev pub fill : {A B : Type 0} → A → (ℕ → A) → List B → Answer (List B) → Filled A B
+fill done refusal before (refused number) = filled (refusal number) before
+fill done refusal before (accepted out) = filled done out
+
+-- Any two outcomes of which a contract says that they come to this are the same.
+abbrev pub OneFilled : {A B : Type 0} → Filled A B → Type 0
+OneFilled {A} {B} this =
+    (a b : A) (out out′ : List B) → filled a out ≡ this → filled b out′ ≡ this
+    → (a ≡ b) × (out ≡ out′)

@@ -4,13 +4,13 @@ use mathlib.Core.Path.{_≡_, refl, sym, ap, _∙_}
 use mathlib.Core.List.{List}
 use lib.IntN.{ℤ}
 use Rattle.basis.specs.Order.{Answer, refused, accepted}
-use Rattle.session.specs.Answers.{ReplayLeft, replay, replayLeft}
-use Rattle.session.specs.Lent.{Lent, Made}
+use Rattle.session.specs.Answers.{replay}
+use Rattle.session.specs.Lent.{Lent, Made, Filled, filled}
 use Rattle.session.specs.Lent.{made, leaves as sessionLeaves}
 use Rattle.session.specs.declared.Replayed.{Replayed}
 use Rattle.session.specs.declared.Replayed.the-variants as replayed
 use Rattle.session.specs.declared.Session.{Session}
-use Rattle.station.specs.Left.{filled, fills, DONE, left, leaves}
+use Rattle.station.specs.Left.{fills, DONE, left, leaves}
 use Rattle.station.specs.Words.{sessionWords}
 
 -- What replay answers, by its number.
@@ -20,13 +20,13 @@ replay-number (replayed.Refused number) = number
 
 -- Replay's answer and state are the C face's.
 module _ {r : Replayed} (before : List ℤ) {after : List ℤ} (a : Answer (List ℤ))
-    (e : replayLeft r after ≡ replay before a) where
+    (e : filled r after ≡ replay before a) where
   replay-fills : filled (replay-number r) after ≡ fills before a
   replay-fills =
-      ap (λ (x : ReplayLeft). filled (replay-number (x .answer)) (x .state)) e ∙ go a
+      ap (λ (x : Filled Replayed ℤ). filled (replay-number (x .answer)) (x .out)) e ∙ go a
     where
       go : (a : Answer (List ℤ))
-          → filled (replay-number (replay before a .answer)) (replay before a .state)
+          → filled (replay-number (replay before a .answer)) (replay before a .out)
           ≡ fills before a
       go (refused number) = refl
       go (accepted state) = refl

@@ -16,15 +16,15 @@ use Rattle.yard.specs.Rule9.{rangesHold}
 use Rattle.yard.specs.declared.world.Yard.{Yard}
 use Rattle.session.specs.Calls.{worldOrder, openOrder, readingOrder, deliverOrder}
 use Rattle.session.specs.Calls.{digestOrder, shownOrder}
-use Rattle.session.specs.Lent.{Lent}
+use Rattle.session.specs.Lent.{Lent, Filled, OneFilled}
 use Rattle.session.specs.Sound.{room}
 use Rattle.session.specs.declared.Session.{Session}
 use Rattle.session.proofs.Good.{bad-ranges}
 use Rattle.station.specs.Words.{sessionWords, sessionOf, nine}
-use Rattle.station.specs.Left.{Filled, filled, Left}
+use Rattle.station.specs.Left.{Left}
 use Rattle.station.specs.Face.{openFace, readingFace, deliverFace, shows, digestFace}
 use Rattle.station.specs.Face.{shownFace, stepRecordsFace}
-use Rattle.station.specs.Statements.{NineWords, OneOutcome, OneLeft, Determined, Refusals}
+use Rattle.station.specs.Statements.{NineWords, OneLeft, Determined, Refusals}
 use Rattle.station.specs.Statements.{Lengths, Thin}
 use Rattle.station.proofs.OneRecord.{read-no-room, not-eight}
 use Rattle.station.proofs.Showing.{wrong-out, shows-order}
@@ -43,9 +43,9 @@ session-back (a ∷ b ∷ []) long = absurd (omega arith)
 session-back (a ∷ []) long = absurd (omega arith)
 session-back [] long = absurd (omega arith)
 
-one-outcome : {A : Type 0} (x : Filled A) → OneOutcome x
+one-outcome : {A : Type 0} (x : Filled ℕ A) → OneFilled x
 one-outcome x r s out other p q =
-    let e = p ∙ sym q in (ap (λ (y : Filled _). y .number) e, ap (λ (y : Filled _). y .out) e)
+    let e = p ∙ sym q in (ap (λ y. y .answer) e, ap (λ y. y .out) e)
 
 one-left : (x : Left) → OneLeft x
 one-left x r s state state′ rows rows′ log log′ session session′ p q =

@@ -4,7 +4,7 @@ use mathlib.Core.List.{List}
 use lib.IntN.{ℤ}
 use Rattle.basis.specs.Order.{Answer, refused, accepted}
 use Rattle.session.specs.Calls.{Delivery}
-use Rattle.session.specs.Lent.{Lent, Made}
+use Rattle.session.specs.Lent.{Lent, Made, Filled, fill}
 use Rattle.session.specs.declared.Session.{Session}
 use Rattle.station.specs.Words.{sessionWords}
 
@@ -12,20 +12,10 @@ use Rattle.station.specs.Words.{sessionWords}
 abbrev pub DONE : ℕ
 DONE = 255
 
--- A call that may change one slice only.
-pub record Filled (A : Type 0) : Type 0 where
-  pub number : ℕ
-  pub out : List A
-
--- The two, as one.
-abbrev pub filled : {A : Type 0} → ℕ → List A → Filled A
-filled number out = record { number = number; out = out }
-
--- 'the number comes back, and .. all lent bytes and words are as before'; an accepted call fills
--- the slice.
-abbrev pub fills : {A : Type 0} → List A → Answer (List A) → Filled A
-fills before (refused number) = filled number before
-fills before (accepted out) = filled DONE out
+-- A call that may change one slice alone: 255, or 'the number comes back, and .. all lent bytes and
+-- words are as before'.
+abbrev pub fills : {A : Type 0} → List A → Answer (List A) → Filled ℕ A
+fills = fill DONE (λ number. number)
 
 -- A call that may change the state, the rows, the log and the session.
 pub record Left : Type 0 where

@@ -14,11 +14,11 @@ use Rattle.yard.specs.Rule9.{rangesHold}
 use Rattle.yard.specs.declared.world.Yard.{Yard}
 use Rattle.session.specs.Calls.{openOrder, readingOrder, deliverOrder, replayOrder}
 use Rattle.session.specs.Calls.{Delivery, digestOrder, shownOrder}
-use Rattle.session.specs.Lent.{Lent, Made}
+use Rattle.session.specs.Lent.{Lent, Made, filled, OneFilled}
 use Rattle.session.specs.Sound.{room, sound}
 use Rattle.session.specs.declared.Session.{Session}
 use Rattle.station.specs.Words.{sessionWords, sessionOf, nine}
-use Rattle.station.specs.Left.{Filled, filled, fills, Left, left, leavesRunning}
+use Rattle.station.specs.Left.{fills, Left, left, leavesRunning}
 use Rattle.station.specs.Left.{leavesDelivered}
 use Rattle.station.specs.Face.{logSound, stepRecordsFace, readRecordFace, writeRecordFace}
 use Rattle.station.specs.Face.{openFace, readingFace, deliverFace, digestFace, shownFace}
@@ -33,12 +33,8 @@ pub record NineWords : Type 0 where
   pub whole : (words : List ℕ) (l : Lent) → rangesHold (sessionOf words .yard) ≡ false
       → sound (sessionOf words) l ≡ false
 
--- Any two outcomes of which a contract says that they come to this are the same.
-abbrev pub OneOutcome : {A : Type 0} → Filled A → Type 0
-OneOutcome {A} x =
-    (r s : ℕ) (out other : List A) → filled r out ≡ x → filled s other ≡ x → (r ≡ s) × (out ≡ other)
-
--- The same of a call that may change four slices.
+-- Any two outcomes of which a contract says that they come to this are the same: of a call that may
+-- change four slices.
 abbrev pub OneLeft : Left → Type 0
 OneLeft x =
     (r s : ℕ) (state state′ rows rows′ : List ℤ) (log log′ session session′ : List ℕ)
@@ -49,10 +45,10 @@ OneLeft x =
 pub record Determined : Type 0 where
   pub logSound : (log : List ℕ) (r s : ℕ) → r ≡ logSound log → s ≡ logSound log → r ≡ s
   pub stepRecords : (log : List ℕ) (step : ℕ) (out : List ℕ)
-      → OneOutcome (fills out (answer (stepRecordsFace log step out)))
-  pub readRecord : (bytes out : List ℕ) → OneOutcome (fills out (answer (readRecordFace bytes out)))
+      → OneFilled (fills out (answer (stepRecordsFace log step out)))
+  pub readRecord : (bytes out : List ℕ) → OneFilled (fills out (answer (readRecordFace bytes out)))
   pub writeRecord : (step carrier lever : ℕ) (out : List ℕ)
-      → OneOutcome (fills out (answer (writeRecordFace step carrier lever out)))
+      → OneFilled (fills out (answer (writeRecordFace step carrier lever out)))
   pub opens : (yard : Yard) (reading : ℕ) (l : Lent) (words : List ℕ)
       → OneLeft (leavesRunning l words (answer (openFace yard reading l words)))
   pub reading : (reading : ℕ) (l : Lent) (words : List ℕ)
@@ -60,11 +56,11 @@ pub record Determined : Type 0 where
   pub deliver : (bytes : List ℕ) (l : Lent) (words : List ℕ)
       → OneLeft (leavesDelivered l words (answer (deliverFace bytes l words)))
   pub replay : (yard : Yard) (steps : ℕ) (cells : List ℕ) (boxes state : List ℤ) (log : List ℕ)
-      → OneOutcome (fills state (answer (replayOrder yard steps cells boxes state log)))
+      → OneFilled (fills state (answer (replayOrder yard steps cells boxes state log)))
   pub digest : (l : Lent) (words out : List ℕ)
-      → OneOutcome (fills out (answer (digestFace l words out)))
+      → OneFilled (fills out (answer (digestFace l words out)))
   pub shown : (carrier : ℕ) (l : Lent) (words : List ℕ) (out : List Float)
-      → OneOutcome (fills out (answer (shownFace carrier l words out)))
+      → OneFilled (fills out (answer (shownFace carrier l words out)))
 
 -- 'the number comes back, and the session and all lent bytes and words are as before'.
 pub record Refusals : Type 1 where

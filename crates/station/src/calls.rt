@@ -3,9 +3,9 @@
 ghost use mathlib.Core.Path.{_≡_};
 ghost use Rattle.basis.specs.Order.{answer};
 ghost use Rattle.session.specs.Calls.{replayOrder};
-ghost use Rattle.session.specs.Lent.{Lent, lent};
+ghost use Rattle.session.specs.Lent.{Lent, filled, lent};
 ghost use Rattle.station.specs.Face.{deliverFace, openFace, readingFace, yardOf};
-ghost use Rattle.station.specs.Left.{filled, fills, leavesDelivered, leavesRunning, left};
+ghost use Rattle.station.specs.Left.{fills, leavesDelivered, leavesRunning, left};
 use super::Face;
 use super::wide;
 use super::words::Words;

@@ -4,13 +4,14 @@ ghost use mathlib.Core.Path.{_≡_};
 ghost use Prim.Native.Nat.{_+_};
 ghost use Rattle.basis.specs.Order.{answer};
 ghost use Rattle.record.specs.Part.{partLength, partStart};
+ghost use Rattle.session.specs.Lent.{filled};
 ghost use Rattle.station.specs.Face.{
   logSound,
   readRecordFace,
   stepRecordsFace,
   writeRecordFace,
 };
-ghost use Rattle.station.specs.Left.{filled, fills};
+ghost use Rattle.station.specs.Left.{fills};
 use super::Face;
 use super::wide;
 use basis::Number;

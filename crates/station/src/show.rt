@@ -2,9 +2,9 @@
 
 ghost use mathlib.Core.Path.{_≡_};
 ghost use Rattle.basis.specs.Order.{answer};
-ghost use Rattle.session.specs.Lent.{lent};
+ghost use Rattle.session.specs.Lent.{filled, lent};
 ghost use Rattle.station.specs.Face.{digestFace, shownFace};
-ghost use Rattle.station.specs.Left.{filled, fills};
+ghost use Rattle.station.specs.Left.{fills};
 use super::Face;
 use super::wide;
 use super::words::session_of;

@@ -7,7 +7,6 @@
 --   Limits      the table's bound 12, speeds within 200
 --   Walk        the move along one axis, for any `free`
 --   Soundness   the state rule as facts; a step keeps it, for any `free`
---   Examples    document 01's examples E to K
 --   Statements  the statements of specs/Statements.antt
 pub mod Cases
 pub mod Signed
@@ -17,5 +16,4 @@ pub mod Squares
 pub mod Limits
 pub mod Walk
 pub mod Soundness
-pub mod Examples
 pub mod Statements

@@ -6,7 +6,6 @@
 --   Levers      the lever table, the cut, the brake, and part 2 of a step
 --   Slide       the move along one axis, parts 3 and 4
 --   Step        one carrier's step, parts 1 to 4, and its state rule
---   Examples    document 01's examples E to K, as statements of these
 --   Statements  what is claimed of these; proofs/Statements.antt has a proof of each
 --   Search      for contracts of parts only: what the search of the covered cells answers
 pub mod Ranges
@@ -16,6 +15,5 @@ pub mod Rule9
 pub mod Levers
 pub mod Slide
 pub mod Step
-pub mod Examples
 pub mod Statements
 pub mod Search

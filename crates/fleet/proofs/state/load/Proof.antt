@@ -1,5 +1,6 @@
 -- `state::load` meets its contract.
 use Prim.Native.Nat.{_+_, _*_}
+use native.Mathlib.Nat.{add-zero}
 use lib.ListN.{getD}
 use lib.IntN.{pos}
 use denote.Ref.{now}
@@ -61,6 +62,7 @@ returns c =
     let state = now (s .args .state) in
     let at = 5 * s .args .i in
     simp (
+      add-zero at,
       got (getD state at (pos 0)) (c .before .before .before .before .t6 .given),
       got (getD state (at + 1) (pos 0)) (c .before .before .before .t10 .given),
       got (getD state (at + 2) (pos 0)) (c .before .before .t14 .given),

@@ -4,7 +4,8 @@ use lib.ListN.{length-set}
 use mathlib.Core.Path.{sym, ap, _∙_}
 use denote.Ref.{now}
 use Rattle.record.specs.Answers.{answerOf}
-use Rattle.station.specs.Left.{filled, fills, DONE}
+use Rattle.session.specs.Lent.{filled}
+use Rattle.station.specs.Left.{fills, DONE}
 use Rattle.station.proofs.OneRecord.{read-refused, read-no-room, read-given}
 use Rattle.station.proofs.Stores.{stores}
 use mathlib.Core.List.{[], _∷_}

@@ -5,7 +5,8 @@ use denote.Ref.{now}
 use borrow.Author.Tests.{eq-eqb, ne-eqb}
 use Rattle.basis.proofs.Order.{passes, fails, gives}
 use Rattle.station.specs.Face.{stepRecordsFace}
-use Rattle.station.specs.Left.{filled, fills, DONE}
+use Rattle.session.specs.Lent.{filled}
+use Rattle.station.specs.Left.{fills, DONE}
 use Rattle.station.proofs.Stores.{stores}
 use borrow.Author.Needs.{needs}
 use Rattle.station.proofs.records.wuthracomb_step_records.Statement.{statement}

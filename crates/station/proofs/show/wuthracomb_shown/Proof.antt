@@ -6,11 +6,11 @@ use mathlib.Core.Path.{_≡_, sym, ap, _∙_}
 use denote.Ref.{now}
 use Rattle.basis.specs.Order.{answer}
 use Rattle.session.specs.Calls.{shownOrder}
-use Rattle.session.specs.Lent.{Lent, lent}
+use Rattle.session.specs.Lent.{Lent, lent, filled}
 use Rattle.yard.proofs.Cases.{passed, failed}
 use Rattle.shown.specs.Answer.{answerOf}
 use Rattle.station.specs.Face.{shownFace}
-use Rattle.station.specs.Left.{filled, fills, DONE}
+use Rattle.station.specs.Left.{fills, DONE}
 use Rattle.station.specs.Words.{sessionOf, wordsFit}
 use Rattle.station.proofs.Sessions.{fit}
 use Rattle.station.proofs.Showing.{wrong-out, shows-unfit, shows-refused, shows-given}
