@@ -59,7 +59,7 @@ module _ (world : World) (opens : Opens world) where
 
 -- An opening that is accepted says that its world opens, and leaves the words of the model's.
 module _ {world : World} {first : ℕ} {h : Handed} (o : Opened world first h) where
-  abbrev lentThen : Lent
+  abbrev pub lentThen : Lent
   lentThen = lent (world .cells) (world .boxes) (o .state) (o .rows) (o .log)
 
   pub opens : Opens world

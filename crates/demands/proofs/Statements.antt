@@ -1,7 +1,8 @@
 -- The statements of specs/Statements.antt, proved.
 use Prim.Native.Nat.{ℕ}
-use mathlib.Core.Path.{_≡_, refl, subst}
-use mathlib.Core.List.{List}
+use mathlib.Core.Path.{_≡_, refl, sym, ap, subst}
+use mathlib.Core.Logic.{inl}
+use mathlib.Core.List.{List, []}
 use mathlib.Core.Bool.{true}
 use native.Mathlib.Omega.{arith}
 use borrow.Author.Tests.{eq-eqb}
@@ -9,7 +10,9 @@ use lib.IntN.{pos}
 use lib.ListN.{replicate, length-replicate}
 use Rattle.basis.specs.Order.{answer, accepted}
 use Rattle.basis.proofs.Tests.{and-both}
-use Rattle.record.specs.Held.{bufferSize}
+use Rattle.record.specs.Bytes.{readOrder}
+use Rattle.record.specs.Held.{bufferSize, leverAt}
+use Rattle.record.specs.declared.bytes.Record.{Record}
 use Rattle.yard.specs.Free.{wall, share, covers, noWall, free}
 use Rattle.yard.specs.Ranges.{between, every}
 use Rattle.yard.specs.Rule9.{rangesHold, cellsHold, sizeHolds, sizesHold, startHolds, startsHold}
@@ -17,17 +20,17 @@ use Rattle.yard.specs.World.{sizeOf}
 use Rattle.fleet.specs.State.{World, startState}
 use Rattle.fleet.specs.Examples.{practice}
 use Rattle.fleet.proofs.Joined.{same-run}
-use Rattle.session.specs.Lent.{Lent, lent}
-use Rattle.session.specs.Sound.{worldRoom, room}
-use Rattle.session.specs.Calls.{worldOrder}
-use Rattle.session.proofs.Openings.{open-gives}
+use Rattle.session.specs.Lent.{Lent, lent, leaves}
+use Rattle.session.specs.Sound.{worldRoom, room, sound}
+use Rattle.session.specs.Calls.{worldOrder, opened, takeIn}
+use Rattle.session.proofs.Openings.{open-gives, opened-says}
 use Rattle.course.specs.Calls.{Call}
 use Rattle.course.proofs.Statements.{course}
 use Rattle.course.proofs.Levers.{earlier-lever}
-use Rattle.demands.specs.Handed.{Handed, Reached}
-use Rattle.demands.specs.Statements.{Demand2, Time, SomeWorldOpens, Demands}
+use Rattle.demands.specs.Handed.{Handed, lentIn, afterCalls, Opened, Reached}
+use Rattle.demands.specs.Statements.{Demand2, Time, Taken, PremisesMet, Demands}
 use Rattle.demands.proofs.Model.{model, lawful}
-use Rattle.demands.proofs.Sessions.{modelled}
+use Rattle.demands.proofs.Sessions.{lentThen, modelled}
 use Rattle.demands.proofs.Demand1.{determined, exactlyWhen}
 use Rattle.demands.proofs.Demand2.{demand2}
 use Rattle.demands.proofs.Shown.{shown}
@@ -65,7 +68,23 @@ unfolding worldOrder answer rangesHold cellsHold sizeHolds sizesHold startHolds 
     sizeOf wall share covers noWall between every
 fair = rw long
 
-met : SomeWorldOpens
+-- A session just opened holds no record, and has made no step.
+takes : (world : World) (first : ℕ) (h : Handed) (bytes : List ℕ) (r : Record)
+    → Opened world first h → answer (readOrder (world .yard .b) bytes) ≡ accepted r
+    → Taken world h bytes
+unfolding afterCalls takeIn leverAt
+takes world first h bytes r o e =
+    let same = opened-says _ first (lentThen o) (o .accepts) .1 in
+    let h₀ : Handed = opened (world .yard) first (lentThen o) in
+    let s : sound (h₀ .result) (lentIn world h₀) ≡ true =
+    subst (λ k. sound (k .result) (lentIn world k) ≡ true) (sym same)
+    (second world first [] h (record { opening = h; opened = o; leads = refl }) .sound) in
+    let a = exactlyWhen .place (h₀ .result) bytes (lentIn world h₀) r s e .taken .1
+    (refl, omega arith, omega arith, inl (omega arith)) in
+    subst (λ k. Taken world k bytes) same
+    (record { session = _; answer = ap (λ x. leaves (lentIn world h₀) x .result) a })
+
+met : PremisesMet
 met =
     record {
       opens = λ first. (
@@ -77,6 +96,7 @@ met =
           accepts = open-gives (practice .yard) first blank fair;
         },
       );
+      takes = takes;
     }
 
 pub demands : Demands

@@ -222,9 +222,14 @@ pub record ShownBetween (session : Session) (l : Lent) (i : ℕ) (place : Place)
   pub y : Between (session .clock .remainder)
       (carrier i (previous session l) .y) (carrier i (l .state) .y) (place .y)
 
--- The premise `Reached` is met: the practice yard opens, with any first reading.
-pub record SomeWorldOpens : Type 0 where
+-- The premises of demands 2 and 3 are met.
+pub record PremisesMet : Type 0 where
+  -- `Reached`: the practice yard opens, with any first reading.
   pub opens : (first : ℕ) → (h : Handed) × Opened practice first h
+  -- `Taken`: a session just opened takes every record that rules 2 to 5 pass.
+  pub takes : (world : World) (first : ℕ) (h : Handed) (bytes : List ℕ) (r : Record)
+      → Opened world first h → answer (readOrder (world .yard .b) bytes) ≡ accepted r
+      → Taken world h bytes
 
 -- All of it.
 pub record Demands : Type 0 where
@@ -244,6 +249,6 @@ pub record Demands : Type 0 where
       → answer (shownOrder session l i) ≡ accepted place → ShownBetween session l i place
   -- Demand 3, of sessions from opening on, on every world.
   pub demand3 : (world : World) → Demand3 world
-  pub met : SomeWorldOpens
+  pub met : PremisesMet
   -- 'Examples to hold against it'
   pub lettered : Lettered

@@ -12,11 +12,8 @@ use Rattle.session.proofs.Good.{good, world-fits, log-fits, state-fits,
 use Rattle.session.specs.Calls.{readingOrder}
 use Rattle.session.specs.Lent.{Lent, lent, leaves}
 use Rattle.clock.specs.Reading.{Given, answerOf, readingOrder as clockOrder}
-use Rattle.clock.specs.Reading.{answerOf}
 use Rattle.session.proofs.Readings.{clock-refuses, clock-gives, due-fits, read-left}
-use Rattle.session.proofs.Good.{good}
 use Rattle.session.specs.Sound.{sound}
-use Rattle.session.specs.Lent.{Lent, lent, leaves}
 use Rattle.yard.proofs.Cases.{passed, failed}
 use Rattle.session.proofs.Session.reading.Statement.{statement}
 use Rattle.session.proofs.Session.reading.Tie as tie
