@@ -19,6 +19,13 @@ unfolding fnv
 continued value [] rest = refl
 continued value (byte ∷ list) rest = continued (withByte value byte) list rest
 
+-- Four bytes, one by one.
+pub four : (value a b c d : ℕ) {first second third fourth : ℕ} → first ≡ withByte value a
+    → second ≡ withByte first b → third ≡ withByte second c → fourth ≡ withByte third d
+    → fourth ≡ fnv value (a ∷ b ∷ c ∷ d ∷ [])
+unfolding fnv
+four value a b c d e f g h = rw (h, g, f, e)
+
 -- The byte at an index, then the bytes after it.
 pub one-more : (value i : ℕ) (list : List ℕ) → i < length list
     → fnv value (drop i list) ≡ fnv (withByte value (getD list i 0)) (drop (i + 1) list)

@@ -12,18 +12,23 @@ use lib.Ieee.Back.{positive-back, negative-back}
 use mir.Syntax.{w32}
 use mir.Val.{Fits, SFits}
 use Rattle.basis.specs.Numbers.{stepLength}
+use Rattle.basis.specs.Order.{Answer, refused}
 use Rattle.shown.specs.Blend.{whole, blendOf}
 use Rattle.shown.specs.Answer.{answerOf}
 use Rattle.shown.specs.Statements.{Determined, Coordinate, ShownPlace, Examples}
+use Rattle.shown.specs.declared.Place.{Place}
 use Rattle.shown.specs.declared.Shown.{Shown}
 use Rattle.shown.specs.declared.Shown.the-variants.{At, Refused}
 use Rattle.shown.proofs.Between.{most, start, rest, between, no-nan}
+
+number-of : {n m : ℕ} → _≡_ {A = Answer Place} (refused n) (refused m) → n ≡ m
+number-of e = cc
 
 same-answer : (a b : Shown) → answerOf a ≡ answerOf b → a ≡ b
 same-answer (At p) (At q) e = let same : p ≡ q = cc in ap At same
 same-answer (At p) (Refused n) e = cc
 same-answer (Refused n) (At q) e = cc
-same-answer (Refused n) (Refused m) e = let same : n ≡ m = cc in ap Refused same
+same-answer (Refused n) (Refused m) e = let same : n ≡ m = number-of e in ap Refused same
 
 pub determined : Determined
 determined = record {
