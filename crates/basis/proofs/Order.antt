@@ -6,6 +6,7 @@ use mathlib.Core.Logic.{_↔_, _⊎_, inl, inr, ⊎-elim}
 use mathlib.Core.Bool.{Bool, true, false}
 use Rattle.basis.specs.Order.{Answer, refused, accepted, Order, check, give, answer, andThen}
 use Rattle.basis.specs.Order.{isAccepted, First, here, later, Passed, end, after}
+use Rattle.basis.specs.Order.{OneOutcome, OneResult}
 use Rattle.basis.proofs.Tests.{never}
 
 module _ {A : Type 0} where
@@ -134,3 +135,11 @@ module _ {A B : Type 0} where
             inl (exactly-number order n .0 (e ∙ ap refused same))
         go (accepted a) e q =
             inr (a, exactly-result order a .0 e, exactly-number _ n .0 (sym (goes-on e) ∙ q))
+
+-- A contract allows one outcome, where no two outcomes say the same.
+pub one-outcome : {O C : Type 0} {says : O → C} → ((a b : O) → says a ≡ says b → a ≡ b)
+    → {this : C} → OneOutcome says this
+one-outcome apart-or-same a b p q = apart-or-same a b (p ∙ sym q)
+
+pub one-result : {A : Type 0} {this : A} → OneResult this
+one-result a b p q = p ∙ sym q

@@ -1,5 +1,6 @@
 -- Document 01, 'Numbers given back' and 'Order': rules tested in turn, each with its number.
 use Prim.Native.Nat.{ℕ}
+use mathlib.Core.Path.{_≡_}
 use mathlib.Core.Bool.{Bool, true, false}
 
 -- What a call comes to: a refusal by its number, or what an accepted call gives.
@@ -38,3 +39,11 @@ isAccepted (refused number) = false
 unfoldable pub andThen : {A B : Type 0} → Order A → (A → Order B) → Order B
 andThen (check test number rest) next = check test number (andThen rest next)
 andThen (give a) next = next a
+
+-- 'any two outcomes allowed by it coincide', of a contract by which what an outcome says is this.
+abbrev pub OneOutcome : {O C : Type 0} → (O → C) → C → Type 0
+OneOutcome {O} says this = (a b : O) → says a ≡ this → says b ≡ this → a ≡ b
+
+-- The same of a contract by which the outcome itself is this.
+abbrev pub OneResult : {A : Type 0} → A → Type 0
+OneResult {A} = OneOutcome {O = A} (λ a. a)

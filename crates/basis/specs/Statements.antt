@@ -11,7 +11,7 @@ use Rattle.basis.specs.LittleEndian.{valueOf, littleEndian, Bytes}
 
 -- 'each given exactly when its rule says' (demand 1), once over any order.
 pub record ExactlyWhen : Type 1 where
-  -- A number comes back if and only if its test is the first of the order that fails.
+  -- A number comes back if and only if a test with it is the first of the order that fails.
   pub number : {A : Type 0} (order : Order A) (n : ℕ) → (answer order ≡ refused n) ↔ First n order
   -- It is the first that fails: the top test fails and has it, or it passes and the rest decides.
   pub first : {A : Type 0} (test : Bool) (number : ℕ) (rest : Order A) (n : ℕ)

@@ -3,6 +3,7 @@ use Prim.Native.Nat.{ℕ, _<_}
 use mathlib.Core.Path.{_≡_, refl, sym, ap, _∙_}
 use mathlib.Core.List.{List}
 use native.Mathlib.Omega.{arith}
+use Rattle.basis.proofs.Order.{one-outcome, one-result}
 use Rattle.basis.specs.Order.{Answer, refused, accepted}
 use Rattle.clock.specs.Clock.{fresh, ticked}
 use Rattle.clock.specs.Reading.{Given, answerOf}
@@ -32,9 +33,10 @@ got-back (Refused number) = refl
 pub determined : Determined
 determined =
     record {
-      opened = λ first p q. p ∙ sym q;
-      sound = λ clock p q. p ∙ sym q;
-      read = λ clock reading a b p q. sym (got-back a) ∙ ap readingOf (p ∙ sym q) ∙ got-back b;
+      opened = λ first. one-result;
+      sound = λ clock. one-result;
+      read = λ clock reading.
+          one-outcome (λ a b e. sym (got-back a) ∙ ap readingOf e ∙ got-back b);
     }
 
 pub exactlyWhen : ExactlyWhen

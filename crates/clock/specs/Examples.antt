@@ -1,5 +1,4 @@
--- Document 01, 'Examples to hold against it': readings that grouping speaks of, proved in
--- proofs/Examples.antt.
+-- Document 01, 'Examples to hold against it': readings that grouping speaks of.
 use Prim.Native.Nat.{ℕ}
 use mathlib.Core.Path.{_≡_}
 use mathlib.Core.List.{List, [], _∷_}

@@ -23,8 +23,8 @@ kept (refused number) reading later = later
 unfoldable pub acceptedOf : ℕ → Clock → List ℕ → List ℕ
 acceptedOf length clock [] = []
 acceptedOf length clock (reading ∷ later) =
-    let given : Answer Given = answer (readingOrder length clock reading) in
-    kept given reading (acceptedOf length (clockLeft clock given) later)
+    let reply : Answer Given = answer (readingOrder length clock reading) in
+    kept reply reading (acceptedOf length (clockLeft clock reply) later)
 
 -- The clock of a session that opened with a first reading, after a history.
 abbrev pub clockAfter : ℕ → ℕ → List ℕ → Clock

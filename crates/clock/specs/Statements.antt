@@ -2,29 +2,25 @@
 use Prim.Native.Nat.{ℕ, _+_, _-_, _*_, _/_, _≤_, _<_}
 use mathlib.Core.Path.{_≡_}
 use mathlib.Core.Logic.{_↔_}
-use mathlib.Core.Bool.{Bool, true, false}
+use mathlib.Core.Bool.{true, false}
 use mathlib.Core.List.{List}
 use Rattle.basis.specs.Numbers.{BACKWARD, END, FAULT, mostSteps, stepLength}
-use Rattle.basis.specs.Order.{refused, accepted, answer}
+use Rattle.basis.specs.Order.{refused, accepted, answer, OneOutcome, OneResult}
 use Rattle.clock.specs.Clock.{longestGap, fresh, due, mostDue, soundClock}
 use Rattle.clock.specs.Reading.{Given, givenBy, readingOrder, answerOf}
 use Rattle.clock.specs.History.{clockAfter, acceptedAfter, lastOf, cutTime}
 use Rattle.clock.specs.History.{NoneRefused, NoLongGap}
 use Rattle.clock.specs.declared.Clock.{Clock}
-use Rattle.clock.specs.declared.Reading.{Reading}
 
 -- 'any two outcomes allowed by it coincide', for the contract of each public entry.
 pub record Determined : Type 0 where
   -- `Clock::new`
-  pub opened : (first : ℕ) {a b : Clock} → a ≡ fresh first → b ≡ fresh first → a ≡ b
+  pub opened : (first : ℕ) → OneResult (fresh first)
   -- `Clock::is_sound`
-  pub sound : (clock : Clock) {a b : Bool} → a ≡ soundClock stepLength clock
-      → b ≡ soundClock stepLength clock → a ≡ b
+  pub sound : (clock : Clock) → OneResult (soundClock stepLength clock)
   -- `Clock::read`
-  pub read : (clock : Clock) (reading : ℕ) (a b : Reading)
-      → answerOf a ≡ answer (readingOrder stepLength clock reading)
-      → answerOf b ≡ answer (readingOrder stepLength clock reading)
-      → a ≡ b
+  pub read : (clock : Clock) (reading : ℕ)
+      → OneOutcome answerOf (answer (readingOrder stepLength clock reading))
 
 -- 'each given exactly when its rule says' (demand 1), at any step length.
 pub record ExactlyWhen : Type 0 where

@@ -1,13 +1,13 @@
 -- Demand 1: each entry's contract allows one outcome, and gives each number exactly when.
 use Prim.Native.Nat.{ℕ}
-use mathlib.Core.Path.{_≡_, sym, ap, _∙_}
+use mathlib.Core.Path.{_≡_, sym, ap}
 use mathlib.Core.Logic.{_↔_}
 use mathlib.Core.List.{List}
 use native.Mathlib.Omega.{arith}
 use lib.IntN.{ℤ}
 use Rattle.basis.specs.Numbers.{TAKEN, HELD}
 use Rattle.basis.specs.Order.{Answer, refused, accepted, Order, answer, First}
-use Rattle.basis.proofs.Order.{apart, exactly-number}
+use Rattle.basis.proofs.Order.{apart, exactly-number, one-outcome, one-result}
 use Rattle.shown.proofs.Statements.{determined as shownDetermined}
 use Rattle.session.specs.declared.Session.{Session}
 use Rattle.session.specs.declared.Running.{Running}
@@ -17,11 +17,11 @@ use Rattle.session.specs.declared.Delivered.the-variants as delivered
 use Rattle.session.specs.declared.Replayed.the-variants as replayed
 use Rattle.session.specs.declared.Digested.{Digested}
 use Rattle.session.specs.declared.Digested.the-variants as digested
-use Rattle.session.specs.Lent.{Lent, made, Made, leaves, filled}
+use Rattle.session.specs.Lent.{Lent, made, Made, tells, leaves, filled}
 use Rattle.session.specs.Calls.{taken, held}
-use Rattle.session.specs.Answers.{runningOf, deliveredOf, digestedOf, replay}
+use Rattle.session.specs.Answers.{runningOf, deliveredOf, digestedOf, replayLeaves}
 use Rattle.session.proofs.Deliveries.{at-place, bytes-read}
-use Rattle.demands.specs.Statements.{OneOutcome, FirstFails, Determined, ExactlyWhen}
+use Rattle.demands.specs.Statements.{FirstFails, Determined, ExactlyWhen}
 
 -- No two answers of the code stand for one answer.
 running-one : (a b : Running) → runningOf a ≡ runningOf b → a ≡ b
@@ -58,23 +58,26 @@ digested-one (digested.Value v) (digested.Refused n) e = apart (sym e)
 digested-one (digested.Refused m) (digested.Value w) e = apart e
 digested-one (digested.Refused m) (digested.Refused n) e = cc
 
-one-outcome : {A C : Type 0} (answerOf : C → Answer A)
-    → ((a b : C) → answerOf a ≡ answerOf b → a ≡ b) → (this : Made (Answer A))
-    → OneOutcome answerOf this
-one-outcome answerOf one this a b s t r q f g x y =
-    let e = x ∙ sym y in
-    (one a b (ap (λ l. l .result) e), ap (λ l. l .state) e, ap (λ l. l .rows) e, ap (λ l. l .log) e)
+-- Nor do two outcomes, with what they leave.
+tells-one : {A C : Type 0} {answerOf : C → A} → ((a b : C) → answerOf a ≡ answerOf b → a ≡ b)
+    → (m n : Made C) → tells answerOf m ≡ tells answerOf n → m ≡ n
+tells-one one m n e =
+    same (one (m .result) (n .result) (ap (λ x. x .result) e)) (ap (λ x. x .state) e)
+    (ap (λ x. x .rows) e) (ap (λ x. x .log) e)
+  where
+    same : m .result ≡ n .result → m .state ≡ n .state → m .rows ≡ n .rows → m .log ≡ n .log
+        → m ≡ n
+    same p q r s = rw (p, q, r, s)
 
 pub determined : Determined
 determined =
     record {
-      opening = λ yard reading l. one-outcome runningOf running-one _;
-      reading = λ session t l. one-outcome runningOf running-one _;
-      deliver = λ session bytes l. one-outcome deliveredOf delivered-one _;
-      replay = λ yard steps cells boxes state log a b s t x y.
-          (ap (λ l. l .answer) (x ∙ sym y), ap (λ l. l .out) (x ∙ sym y));
-      digest = λ session l a b x y. digested-one a b (x ∙ sym y);
-      shown = λ session i l a b x y. shownDetermined .answer a b (x ∙ sym y);
+      opening = λ yard reading l. one-outcome (tells-one running-one);
+      reading = λ session t l. one-outcome (tells-one running-one);
+      deliver = λ session bytes l. one-outcome (tells-one delivered-one);
+      replay = λ yard steps cells boxes state log. one-result;
+      digest = λ session l. one-outcome digested-one;
+      shown = λ session i l. shownDetermined .answer _;
     }
 
 -- A refusal leaves its number and all as it was.
@@ -93,13 +96,13 @@ refused-left {A} l order n = (
     go (accepted m) e = apart (sym (ap (λ x. x .result) e))
 
 replay-left : (state : List ℤ) (order : Order (List ℤ)) (n : ℕ)
-    → (replay state (answer order) ≡ filled (replayed.Refused n) state) ↔ First n order
+    → (replayLeaves state (answer order) ≡ filled (replayed.Refused n) state) ↔ First n order
 replay-left state order n = (
   λ e. exactly-number order n .0 (go (answer order) e),
-  λ f. ap (replay state) (exactly-number order n .1 f),
+  λ f. ap (replayLeaves state) (exactly-number order n .1 f),
 )
   where
-    go : (a : Answer (List ℤ)) → replay state a ≡ filled (replayed.Refused n) state
+    go : (a : Answer (List ℤ)) → replayLeaves state a ≡ filled (replayed.Refused n) state
         → a ≡ refused n
     go (refused m) e = ap refused (cc (ap (λ x. x .answer) e))
     go (accepted m) e = cc (ap (λ x. x .answer) e)

@@ -24,7 +24,7 @@ use Rattle.shown.specs.Answer.{shownPlace}
 use Rattle.yard.specs.declared.carrier.Carrier.{Carrier}
 use Rattle.fleet.specs.State.{World, stateWords, carrier, soundState}
 use Rattle.fleet.specs.Step.{stepAt}
-use Rattle.fleet.specs.Run.{run, rowOf}
+use Rattle.fleet.specs.Run.{moved, run, rowOf}
 use Rattle.course.specs.World.{after}
 use Rattle.course.specs.Session.{Session}
 use Rattle.course.proofs.Rows.{row-saved, row-blank}
@@ -34,7 +34,7 @@ use Rattle.course.proofs.Words.{flat-length}
 use Rattle.session.specs.Sound.{worldRoom}
 use Rattle.session.specs.Calls.{worldOrder}
 use Rattle.session.specs.Calls.{replayOrder, digestOrder, shownOrder, shownOf, previous}
-use Rattle.demands.specs.Handed.{lentIn, moved}
+use Rattle.demands.specs.Handed.{lentIn}
 use Rattle.demands.specs.Statements.{Demand2}
 use Rattle.demands.proofs.Model.{Opens, model, lawful, fitting-fits}
 use Rattle.demands.proofs.Ties.{handed, fits, same-records, same-row, words-sound}

@@ -5,6 +5,7 @@ use mathlib.Core.Bool.{Bool, false}
 use mathlib.Core.Logic.{_↔_, _≢_}
 use mathlib.Core.List.{List, [], _∷_, List·Memᴰ, flatten}
 use lib.Dec.{eqb}
+use borrow.Author.Tests.{eq-eqb}
 use Rattle.basis.specs.Numbers.{TAKEN}
 use Rattle.basis.specs.Order.{Answer, refused, accepted, answer}
 use Rattle.basis.proofs.Order.{apart}
@@ -22,9 +23,9 @@ use Rattle.course.proofs.Calls.{PlacedAs, told-at, byBytes, is-malformed, is-pl
 use Rattle.course.proofs.Calls.{leaves as leaves-model}
 use Rattle.course.proofs.Kept.{Kept, kept-next, kept-run}
 use Rattle.course.proofs.Statements.{course}
-use Rattle.session.specs.Lent.{made, leaves}
-use Rattle.session.specs.Calls.{Delivery, held as heldWords}
-use Rattle.demands.specs.Handed.{Handed, lentIn, deliveryLeaves, next, afterCalls}
+use Rattle.session.specs.Lent.{Made}
+use Rattle.session.specs.Calls.{Delivery, unchanged}
+use Rattle.demands.specs.Handed.{Handed, lentIn, deliveryAnswer, next, afterCalls}
 use Rattle.demands.specs.Handed.{heldBy}
 use Rattle.demands.specs.Statements.{Taken, Same, Demand3}
 use Rattle.demands.proofs.Model.{Opens, model, lawful}
@@ -50,27 +51,23 @@ module _ (world : World) (opens : Opens world) (s : Session (model world)) (k : 
     pub new : Session (model world)
     pub taken : answerTo s (delivery bytes) ≡ accepted (taken new)
 
-  abbrev saysTaken : Answer Delivery → Bool
-  saysTaken (accepted given) = eqb (given .number) TAKEN
+  abbrev saysTaken : Answer (Made Delivery) → Bool
+  saysTaken (accepted made) = eqb (made .result .number) TAKEN
   saysTaken (refused number) = false
 
-  -- What a delivery leaves in the words, by the model's answer.
-  pub left-by : (bytes : List ℕ) {a : Answer (Outcome (model world))}
+  -- What a delivery is answered in the words, by the model's answer.
+  pub answered : (bytes : List ℕ) {a : Answer (Outcome (model world))}
       → answerTo s (delivery bytes) ≡ a
-      → deliveryLeaves world (handed world s) bytes
-      ≡ leaves (lentIn world (handed world s)) (mapped (asDelivered world opens s k) a)
-  left-by bytes e = rw (same-delivery world opens s k bytes, e)
+      → deliveryAnswer world (handed world s) bytes ≡ mapped (asDelivered world opens s k) a
+  answered bytes e = rw (same-delivery world opens s k bytes, e)
 
   taken-as : (bytes : List ℕ) → Taken world (handed world s) bytes → TakenAs bytes
   taken-as bytes t = go (answerTo s (delivery bytes)) refl
     where
       none : {a : Answer (Outcome (model world))} → answerTo s (delivery bytes) ≡ a
-          → saysTaken
-          (leaves (lentIn world (handed world s)) (mapped (asDelivered world opens s k) a) .result)
-          ≡ false
-          → TakenAs bytes
+          → saysTaken (mapped (asDelivered world opens s k) a) ≡ false → TakenAs bytes
       none e f =
-          never (ap saysTaken (sym (ap (λ l. l .result) (left-by bytes e)) ∙ t .answer)) f
+          never (ap saysTaken (sym (answered bytes e) ∙ t .answer) ∙ eq-eqb _ _ (t .number)) f
 
       go : (a : Answer (Outcome (model world))) → answerTo s (delivery bytes) ≡ a → TakenAs bytes
       go (accepted (taken new)) e = record { new = new; taken = e }
@@ -81,10 +78,7 @@ module _ (world : World) (opens : Opens world) (s : Session (model world)) (k : 
   as-taken : (bytes : List ℕ) {new : Session (model world)}
       → answerTo s (delivery bytes) ≡ accepted (taken new) → Taken world (handed world s) bytes
   as-taken bytes {new} e =
-      record {
-        session = handed world new .result;
-        answer = ap (λ l. l .result) (left-by bytes e);
-      }
+      record { made = _; answer = answered bytes e; number = refl }
 
   -- What a delivery that was taken leaves, and hands on.
   module _ (bytes : List ℕ) {new : Session (model world)}
@@ -124,8 +118,7 @@ module _ (world : World) (opens : Opens world) where
   again : (s : Session (model world)) → Kept s → (between : List Call) (bytes : List ℕ)
       → Taken world (handed world s) bytes
       → (later : Handed) → afterCalls world (handed world s) (delivery bytes ∷ between) ≡ later
-      → deliveryLeaves world later bytes
-      ≡ made (accepted (heldWords (later .result))) (later .state) (later .rows) (later .log)
+      → deliveryAnswer world later bytes ≡ accepted (unchanged (later .result) (lentIn world later))
   unfolding afterCalls
   again s k between bytes t later e =
       let took = taken-as world opens s k bytes t in
@@ -136,11 +129,10 @@ module _ (world : World) (opens : Opens world) where
       ∙ ap (λ h. afterCalls world h between) (sym (next-words world opens s k bytes (took .taken)))
       ∙ e in
       subst
-      (λ h. deliveryLeaves world h bytes
-      ≡ made (accepted (heldWords (h .result))) (h .state) (h .rows) (h .log))
+      (λ h. deliveryAnswer world h bytes ≡ accepted (unchanged (h .result) (lentIn world h)))
       words
-      (left-by world opens (modelRun new between) (kept-run (lawful world opens) between kept) bytes
-      (law .again s new bytes between (took .taken) .0))
+      (answered world opens (modelRun new between) (kept-run (lawful world opens) between kept)
+      bytes (law .again s new bytes between (took .taken) .0))
 
   -- Two deliveries that the model takes one right after the other.
   both : (s : Session (model world)) → Kept s → (a b : List ℕ) {t u : Session (model world)}
@@ -181,10 +173,15 @@ module _ (world : World) (opens : Opens world) where
       × Taken world (next world (handed world s) (delivery b)) a
       × (afterCalls world (handed world s) (delivery b ∷ delivery a ∷ [])
       ≡ afterCalls world (handed world s) (delivery a ∷ delivery b ∷ []))
+      × (recordOf a .step ≡ recordOf b .step → recordOf a .carrier ≢ recordOf b .carrier)
   swap s k p a b t =
       let w = law .swap s (t .first) (t .second) a b p (t .takes) (t .then) in
-      let other = both s k b a (w .1) (w .2) in
-      (other .0, other .1, other .2 ∙ sym (both s k a b (t .takes) (t .then) .2))
+      let other = both s k b a (w .1) (w .2) in (
+        other .0,
+        other .1,
+        other .2 ∙ sym (both s k a b (t .takes) (t .then) .2),
+        law .apart s (t .first) (t .second) a b (t .takes) (t .then),
+      )
 
 -- Demand 3 of every world: each session of it has the words of one of the model.
 pub demand3 : (world : World) → Demand3 world
@@ -207,8 +204,8 @@ demand3 world =
           let m = modelled p in
           subst
           (λ x. Taken world x bytes → afterCalls world x (delivery bytes ∷ between) ≡ later
-          → deliveryLeaves world later bytes
-          ≡ made (accepted (heldWords (later .result))) (later .state) (later .rows) (later .log))
+          → deliveryAnswer world later bytes
+          ≡ accepted (unchanged (later .result) (lentIn world later)))
           (m .words)
           (λ t. again world (m .opens) (of m) (m .kept) between bytes t later);
       swap = λ first calls h a b p.
@@ -217,20 +214,12 @@ demand3 world =
           (λ x. Taken world x a → Taken world (next world x (delivery a)) b
           → Taken world x b × Taken world (next world x (delivery b)) a
           × (afterCalls world x (delivery b ∷ delivery a ∷ [])
-          ≡ afterCalls world x (delivery a ∷ delivery b ∷ [])))
+          ≡ afterCalls world x (delivery a ∷ delivery b ∷ []))
+          × (recordOf a .step ≡ recordOf b .step → recordOf a .carrier ≢ recordOf b .carrier))
           (m .words)
           (λ ta tb.
           swap world (m .opens) (of m) (m .kept) (m .reached) a b
           (both-taken world (m .opens) (of m) (m .kept) a b ta tb));
-      apart = λ first calls h a b p.
-          let m = modelled p in
-          subst
-          (λ x. Taken world x a → Taken world (next world x (delivery a)) b
-          → recordOf a .step ≡ recordOf b .step → recordOf a .carrier ≢ recordOf b .carrier)
-          (m .words)
-          (λ ta tb.
-          let t = both-taken world (m .opens) (of m) (m .kept) a b ta tb in
-          law world (m .opens) .apart (of m) (t .first) (t .second) a b (t .takes) (t .then));
       grouping = λ first calls others h k p q a b c d e.
           let m = modelled p in
           let n = modelled q in

@@ -7,12 +7,11 @@ use native.Mathlib.Omega.{arith}
 use borrow.Author.Tests.{ltb-true}
 use lib.IntN.{ℤ}
 use mir.Syntax.{w32}
-use mir.Val.{SFits}
+use mir.Val.{Fits, SFits}
 use Rattle.basis.specs.Numbers.{stepLength}
 use Rattle.basis.specs.Order.{accepted, answer}
 use Rattle.basis.proofs.Order.{held, given}
 use Rattle.clock.proofs.Sound.{sound-says}
-use Rattle.shown.specs.Blend.{blendOf}
 use Rattle.shown.specs.Answer.{shownPlace}
 use Rattle.shown.specs.declared.Place.{Place}
 use Rattle.shown.proofs.Statements.{shownPlace as laws}
@@ -25,7 +24,7 @@ use Rattle.session.specs.declared.Session.{Session}
 use Rattle.session.specs.Lent.{Lent, worldIn}
 use Rattle.session.specs.Calls.{shownOrder, shownOf, previous}
 use Rattle.session.proofs.Good.{good, world-fits}
-use Rattle.demands.specs.Statements.{Between, ShownBetween}
+use Rattle.demands.specs.Statements.{ShownBetween}
 
 -- The coordinates of a carrier of a sound state are i32: it is free where it is.
 place-fits : (world : World) → WorldFits world → (state : List ℤ) → soundState world state ≡ true
@@ -35,17 +34,6 @@ place-fits world fits state e i h =
     let near = free .near _ _ _ _ _ (fits .laid)
     (sym (free-as-yard world i state _ _) ∙ each-free world state e i h) in
     (small _ (omega (arith, near .0)), small _ (omega (arith, near .1)))
-
--- One coordinate, of i32 and a remainder below the length of a step.
-coordinate : (remainder : ℕ) (p c : ℤ) → remainder < stepLength → SFits w32 p → SFits w32 c
-    → Between remainder p c (blendOf stepLength p c remainder)
-coordinate remainder p c h P C =
-    let all = laws .coordinate stepLength p c (omega arith) (record { fits = omega arith }) P C in
-    record {
-      within = all .between remainder h;
-      start = λ e. rw e (all .start);
-      rest = all .rest remainder (record { fits = omega arith });
-    }
 
 module _ (session : Session) (l : Lent) (i : ℕ) (place : Place)
     (e : answer (shownOrder session l i) ≡ accepted place) where
@@ -57,8 +45,12 @@ module _ (session : Session) (l : Lent) (i : ℕ) (place : Place)
       let (row, e₃) = held _ _ _ e₂ in
       let g = good session l s in
       let h = sound-says (g .clock) .remainder in
+      let long : Fits w32 stepLength = record { fits = omega arith } in
       let fits = place-fits (worldIn session l) (world-fits session l g) in
       let p = fits (previous session l) row i (ltb-true _ _ below) in
       let c = fits (l .state) (g .state) i (ltb-true _ _ below) in
       rw (← given _ e₃)
-      (record { x = coordinate _ _ _ h (p .0) (c .0); y = coordinate _ _ _ h (p .1) (c .1) })
+      (record {
+        x = laws .coordinate stepLength _ _ _ long h (p .0) (c .0);
+        y = laws .coordinate stepLength _ _ _ long h (p .1) (c .1);
+      })

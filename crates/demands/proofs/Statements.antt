@@ -1,6 +1,6 @@
 -- The statements of specs/Statements.antt, proved.
 use Prim.Native.Nat.{ℕ}
-use mathlib.Core.Path.{_≡_, refl, sym, ap, subst}
+use mathlib.Core.Path.{_≡_, refl, sym, subst}
 use mathlib.Core.Logic.{inl}
 use mathlib.Core.List.{List, []}
 use mathlib.Core.Bool.{true}
@@ -20,7 +20,7 @@ use Rattle.yard.specs.World.{sizeOf}
 use Rattle.fleet.specs.State.{World, startState}
 use Rattle.fleet.specs.Examples.{practice}
 use Rattle.fleet.proofs.Joined.{same-run}
-use Rattle.session.specs.Lent.{Lent, lent, leaves}
+use Rattle.session.specs.Lent.{Lent, lent}
 use Rattle.session.specs.Sound.{worldRoom, room, sound}
 use Rattle.session.specs.Calls.{worldOrder, opened, takeIn}
 use Rattle.session.proofs.Openings.{open-gives, opened-says}
@@ -81,8 +81,7 @@ takes world first h bytes r o e =
     (second world first [] h (record { opening = h; opened = o; leads = refl }) .sound) in
     let a = exactlyWhen .place (h₀ .result) bytes (lentIn world h₀) r s e .taken .1
     (refl, omega arith, omega arith, inl (omega arith)) in
-    subst (λ k. Taken world k bytes) same
-    (record { session = _; answer = ap (λ x. leaves (lentIn world h₀) x .result) a })
+    subst (λ k. Taken world k bytes) same (record { made = _; answer = a; number = refl })
 
 met : PremisesMet
 met =

@@ -8,14 +8,13 @@ use lib.IntN.{ℤ}
 use Rattle.basis.specs.Order.{Answer, refused, accepted, answer}
 use Rattle.record.specs.Log.{records}
 use Rattle.record.specs.declared.bytes.Record.{Record}
-use Rattle.fleet.specs.State.{World, startState}
-use Rattle.fleet.specs.Run.{run}
+use Rattle.fleet.specs.State.{World}
 use Rattle.course.specs.Calls.{Call, reading, delivery}
 use Rattle.session.specs.declared.Session.{Session}
-use Rattle.session.specs.Lent.{Lent, lent, Made, made, leaves}
+use Rattle.session.specs.Lent.{Lent, lent, Made, tells}
 use Rattle.session.specs.Calls.{openOrder, readingOrder, deliverOrder, Delivery}
 
--- What is handed from call to call: the session, and the state, rows and log as they stand.
+-- What is handed from call to call: the session (`.result`), and state, rows and log as they stand.
 abbrev pub Handed : Type 0
 Handed = Made Session
 
@@ -23,22 +22,20 @@ Handed = Made Session
 abbrev pub lentIn : World → Handed → Lent
 lentIn world h = lent (world .cells) (world .boxes) (h .state) (h .rows) (h .log)
 
--- What an answer hands on: its session and the buffers that it makes; a refusal all as it was.
+-- What an answer hands on, as in `leaves`: its session and what it made; a refusal all as it was.
 abbrev pub handsOn : {A : Type 0} → (A → Session) → Handed → Answer (Made A) → Handed
-handsOn sessionOf h (accepted m) = made (sessionOf (m .result)) (m .state) (m .rows) (m .log)
+handsOn sessionOf h (accepted m) = tells sessionOf m
 handsOn sessionOf h (refused number) = h
 
--- What a delivery leaves: the right side of its contract.
-abbrev pub deliveryLeaves : World → Handed → List ℕ → Made (Answer Delivery)
-deliveryLeaves world h bytes =
-    leaves (lentIn world h) (answer (deliverOrder (h .result) (lentIn world h) bytes))
+-- What a delivery of these bytes is answered.
+abbrev pub deliveryAnswer : World → Handed → List ℕ → Answer (Made Delivery)
+deliveryAnswer world h bytes = answer (deliverOrder (h .result) (lentIn world h) bytes)
 
 -- What a call hands on.
 unfoldable pub next : World → Handed → Call → Handed
 next world h (reading t) =
     handsOn (λ session. session) h (answer (readingOrder (h .result) (lentIn world h) t))
-next world h (delivery bytes) =
-    handsOn (λ d. d .session) h (answer (deliverOrder (h .result) (lentIn world h) bytes))
+next world h (delivery bytes) = handsOn (λ d. d .session) h (deliveryAnswer world h bytes)
 
 -- 'each call given what the last one left'
 unfoldable pub afterCalls : World → Handed → List Call → Handed
@@ -66,7 +63,3 @@ stepsMade h = h .result .clock .steps
 -- 'the records held'
 abbrev pub heldBy : Handed → List Record
 heldBy h = records (h .result .held) (h .log)
-
--- 'the start state moved n times by that rule under the records held'
-abbrev pub moved : World → ℕ → List Record → List ℤ
-moved world n records = run world records 0 n (startState world)

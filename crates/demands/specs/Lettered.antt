@@ -1,4 +1,4 @@
--- Document 01, 'Examples to hold against it'.
+-- Document 01, 'Examples to hold against it': those with a letter.
 use Prim.Native.Nat.{ℕ, _+_}
 use mathlib.Core.Path.{_≡_}
 use mathlib.Core.List.{List, [], _∷_}

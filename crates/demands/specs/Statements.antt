@@ -1,15 +1,13 @@
--- What is claimed of the calls of `session`, demand by demand. proofs/Statements.antt proves each
--- record whole.
+-- What is claimed of the calls of `session`; proofs/Statements.antt proves `Demands`, the last.
 use Prim.Native.Nat.{ℕ, _+_, _*_, _-_, _<_, _≤_}
 use mathlib.Core.Path.{_≡_}
 use mathlib.Core.Logic.{_↔_, _≢_}
 use mathlib.Core.Bool.{true}
 use mathlib.Core.List.{List, [], _∷_, List·Memᴰ}
-use lib.Ieee.{Float}
 use lib.IntN.{ℤ, pos}
 use lib.ListN.{length, take, replicate}
-use Rattle.basis.specs.Numbers.{FAULT, stepLength, mostRecords, rowCount}
-use Rattle.basis.specs.Order.{Answer, refused, accepted, Order, answer, First}
+use Rattle.basis.specs.Numbers.{TAKEN, FAULT, stepLength, mostRecords, rowCount}
+use Rattle.basis.specs.Order.{refused, accepted, Order, answer, First, OneOutcome, OneResult}
 use Rattle.record.specs.Bytes.{recordOf, readOrder}
 use Rattle.record.specs.Log.{ascending}
 use Rattle.record.specs.Held.{bufferOf}
@@ -20,58 +18,47 @@ use Rattle.clock.specs.History.{clockAfter, acceptedAfter, lastOf, NoneRefused,
 use Rattle.clock.specs.Statements.{FromOpening}
 use Rattle.digest.specs.Fnv.{digestOf}
 use Rattle.digest.specs.Words.{stateBytes}
-use Rattle.shown.specs.Blend.{whole, isBetween}
 use Rattle.shown.specs.Answer.{shownPlace, answerOf}
+use Rattle.shown.specs.Statements.{Between}
 use Rattle.shown.specs.declared.Place.{Place}
 use Rattle.yard.specs.declared.world.Yard.{Yard}
 use Rattle.yard.specs.declared.carrier.Carrier.{Carrier}
 use Rattle.fleet.specs.State.{World, stateWords, carrier}
-use Rattle.fleet.specs.Run.{rowOf}
+use Rattle.fleet.specs.Run.{moved, rowOf}
 use Rattle.fleet.specs.Examples.{practice}
 use Rattle.course.specs.Calls.{Call, delivery, readingsOf}
 use Rattle.session.specs.declared.Session.{Session}
 use Rattle.session.specs.declared.Replayed.the-variants as replayed
-use Rattle.session.specs.Lent.{Lent, Made, made, leaves, filled, OneFilled}
+use Rattle.session.specs.Lent.{Lent, Made, made, tells, leaves, filled}
 use Rattle.session.specs.Sound.{sound}
 use Rattle.session.specs.Calls.{openOrder, readingOrder, deliverOrder, replayOrder, digestOrder}
-use Rattle.session.specs.Calls.{shownOrder, previous, taken, held, foundIn, unchanged, takeIn}
-use Rattle.session.specs.Answers.{runningOf, deliveredOf, digestedOf, replay}
-use Rattle.demands.specs.Handed.{Handed, lentIn, deliveryLeaves, next, afterCalls, Opened}
-use Rattle.demands.specs.Handed.{Reached, stepsMade, heldBy, moved}
+use Rattle.session.specs.Calls.{shownOrder, previous, Delivery, foundIn, unchanged, takeIn}
+use Rattle.session.specs.Answers.{runningOf, deliveredOf, digestedOf, replayLeaves}
+use Rattle.demands.specs.Handed.{Handed, lentIn, deliveryAnswer, next, afterCalls, Opened}
+use Rattle.demands.specs.Handed.{Reached, stepsMade, heldBy}
 use Rattle.demands.specs.Lettered.{Lettered}
 
--- Any two outcomes of which a contract says that they come to this are the same: the answer, and
--- what the call leaves in the buffers that it may change.
-abbrev pub OneOutcome : {A C : Type 0} → (C → Answer A) → Made (Answer A) → Type 0
-OneOutcome {A} {C} answerOf this =
-    (a b : C) (state state′ rows rows′ : List ℤ) (log log′ : List ℕ)
-    → made (answerOf a) state rows log ≡ this → made (answerOf b) state′ rows′ log′ ≡ this
-    → (a ≡ b) × (state ≡ state′) × (rows ≡ rows′) × (log ≡ log′)
-
--- The same of a call that changes no buffer.
-abbrev pub OneAnswer : {A C : Type 0} → (C → Answer A) → Answer A → Type 0
-OneAnswer {A} {C} answerOf this = (a b : C) → answerOf a ≡ this → answerOf b ≡ this → a ≡ b
-
--- 'any two outcomes allowed by it coincide', for the contract of each public entry.
+-- 'any two outcomes allowed by it coincide', for the contract of each public entry of `session`:
+-- the answer, and what the call leaves in the buffers that it may change.
 pub record Determined : Type 0 where
   -- `Session::open`
   pub opening : (yard : Yard) (reading : ℕ) (l : Lent)
-      → OneOutcome runningOf (leaves l (answer (openOrder yard reading l)))
+      → OneOutcome (tells runningOf) (leaves l (answer (openOrder yard reading l)))
   -- `Session::reading`
   pub reading : (session : Session) (t : ℕ) (l : Lent)
-      → OneOutcome runningOf (leaves l (answer (readingOrder session l t)))
+      → OneOutcome (tells runningOf) (leaves l (answer (readingOrder session l t)))
   -- `Session::deliver`
   pub deliver : (session : Session) (bytes : List ℕ) (l : Lent)
-      → OneOutcome deliveredOf (leaves l (answer (deliverOrder session l bytes)))
+      → OneOutcome (tells deliveredOf) (leaves l (answer (deliverOrder session l bytes)))
   -- `replay`
   pub replay : (yard : Yard) (steps : ℕ) (cells : List ℕ) (boxes state : List ℤ) (log : List ℕ)
-      → OneFilled (replay state (answer (replayOrder yard steps cells boxes state log)))
+      → OneResult (replayLeaves state (answer (replayOrder yard steps cells boxes state log)))
   -- `digest`
   pub digest : (session : Session) (l : Lent)
-      → OneAnswer digestedOf (answer (digestOrder session l))
+      → OneOutcome digestedOf (answer (digestOrder session l))
   -- `shown`
   pub shown : (session : Session) (i : ℕ) (l : Lent)
-      → OneAnswer answerOf (answer (shownOrder session l i))
+      → OneOutcome answerOf (answer (shownOrder session l i))
 
 -- A number comes back, and all is as it was, if and only if a test with this number is the first of
 -- the order that fails.
@@ -81,7 +68,7 @@ FirstFails l order =
     → (leaves l (answer order) ≡ made (refused n) (l .state) (l .rows) (l .log)) ↔ First n order
 
 -- 'each given exactly when its rule says, and a refusal changes no session and no buffer', by
--- document 01's order of each entry.
+-- document 01's order of each entry of `session`.
 pub record ExactlyWhen : Type 0 where
   -- 'Opening: ranges of W, H, B (9); lengths (10); cells, sizes, starts (9).'
   pub opening : (yard : Yard) (reading : ℕ) (l : Lent) → FirstFails l (openOrder yard reading l)
@@ -98,7 +85,7 @@ pub record ExactlyWhen : Type 0 where
   -- 'Replay: opening's order without rows .., then 13, then 5.'
   pub replay : (yard : Yard) (steps : ℕ) (cells : List ℕ) (boxes state : List ℤ) (log : List ℕ)
       (n : ℕ)
-      → (replay state (answer (replayOrder yard steps cells boxes state log))
+      → (replayLeaves state (answer (replayOrder yard steps cells boxes state log))
       ≡ filled (replayed.Refused n) state)
       ↔ First n (replayOrder yard steps cells boxes state log)
   -- The digest: 'Unsound: 14.'
@@ -145,8 +132,7 @@ pub record Demand2 (world : World) (h : Handed) : Type 0 where
   pub sound : sound (h .result) (lentIn world h) ≡ true
   -- and no reading and no delivery is answered 14.
   pub reads : (t : ℕ) → answer (readingOrder (h .result) (lentIn world h) t) ≢ refused FAULT
-  pub delivers : (bytes : List ℕ)
-      → answer (deliverOrder (h .result) (lentIn world h) bytes) ≢ refused FAULT
+  pub delivers : (bytes : List ℕ) → deliveryAnswer world h bytes ≢ refused FAULT
 
 -- 'From opening on', of a session as in demand 3.
 pub record Time (first : ℕ) (calls : List Call) (h : Handed) : Type 0 where
@@ -158,8 +144,9 @@ pub record Time (first : ℕ) (calls : List Call) (h : Handed) : Type 0 where
 
 -- These bytes are answered TAKEN.
 pub record Taken (world : World) (h : Handed) (bytes : List ℕ) : Type 0 where
-  pub session : Session
-  pub answer : deliveryLeaves world h bytes .result ≡ accepted (taken session)
+  pub made : Made Delivery
+  pub answer : deliveryAnswer world h bytes ≡ accepted made
+  pub number : made .result .number ≡ TAKEN
 
 -- Two sessions have equal 'state, saved rows, log bytes and digest .., and are those of demand 2'.
 pub record Same (world : World) (h k : Handed) : Type 0 where
@@ -184,20 +171,16 @@ pub record Demand3 (world : World) : Type 0 where
   pub again : (first : ℕ) (calls between : List Call) (h later : Handed) (bytes : List ℕ)
       → Reached world first calls h → Taken world h bytes
       → afterCalls world h (delivery bytes ∷ between) ≡ later
-      → deliveryLeaves world later bytes
-      ≡ made (accepted (held (later .result))) (later .state) (later .rows) (later .log)
+      → deliveryAnswer world later bytes ≡ accepted (unchanged (later .result) (lentIn world later))
   -- 'Two records for different places, delivered one right after the other and both taken, are both
-  -- taken in the other order', and end alike. (Both taken, their places do differ: `apart`.)
+  -- taken in the other order', and end alike; both taken, their places do differ.
   pub swap : (first : ℕ) (calls : List Call) (h : Handed) (a b : List ℕ)
       → Reached world first calls h
       → Taken world h a → Taken world (next world h (delivery a)) b
       → Taken world h b × Taken world (next world h (delivery b)) a
       × (afterCalls world h (delivery b ∷ delivery a ∷ [])
       ≡ afterCalls world h (delivery a ∷ delivery b ∷ []))
-  pub apart : (first : ℕ) (calls : List Call) (h : Handed) (a b : List ℕ)
-      → Reached world first calls h
-      → Taken world h a → Taken world (next world h (delivery a)) b
-      → recordOf a .step ≡ recordOf b .step → recordOf a .carrier ≢ recordOf b .carrier
+      × (recordOf a .step ≡ recordOf b .step → recordOf a .carrier ≢ recordOf b .carrier)
   -- 'Two lists of readings that begin at opening, with the same first and last, none refused and no
   -- gap over 250,000 microseconds, give equal steps and remainder', whatever is delivered between.
   pub grouping : (first : ℕ) (calls others : List Call) (h k : Handed)
@@ -209,12 +192,6 @@ pub record Demand3 (world : World) : Type 0 where
       → (stepsMade h ≡ stepsMade k)
       × (h .result .clock .remainder ≡ k .result .clock .remainder)
 
--- 'It lies between p and c, ends allowed; it equals p when the remainder is 0 or p equals c'.
-pub record Between (remainder : ℕ) (p c : ℤ) (shown : Float) : Type 0 where
-  pub within : isBetween p c shown ≡ true
-  pub start : remainder ≡ 0 → shown ≡ whole p
-  pub rest : p ≡ c → shown ≡ whole p
-
 -- The shown place of carrier i: from the state before the last step to the state.
 pub record ShownBetween (session : Session) (l : Lent) (i : ℕ) (place : Place) : Type 0 where
   pub x : Between (session .clock .remainder)
@@ -222,7 +199,7 @@ pub record ShownBetween (session : Session) (l : Lent) (i : ℕ) (place : Place)
   pub y : Between (session .clock .remainder)
       (carrier i (previous session l) .y) (carrier i (l .state) .y) (place .y)
 
--- The premises of demands 2 and 3 are met.
+-- Of the premises of demands 2 and 3, `Reached` and `Taken` are met.
 pub record PremisesMet : Type 0 where
   -- `Reached`: the practice yard opens, with any first reading.
   pub opens : (first : ℕ) → (h : Handed) × Opened practice first h
@@ -231,7 +208,7 @@ pub record PremisesMet : Type 0 where
       → Opened world first h → answer (readOrder (world .yard .b) bytes) ≡ accepted r
       → Taken world h bytes
 
--- All of it.
+-- The demands, of the calls of `session`.
 pub record Demands : Type 0 where
   -- Demand 1, of any bytes, numbers, readings and buffers.
   pub determined : Determined
@@ -250,5 +227,5 @@ pub record Demands : Type 0 where
   -- Demand 3, of sessions from opening on, on every world.
   pub demand3 : (world : World) → Demand3 world
   pub met : PremisesMet
-  -- 'Examples to hold against it'
+  -- 'Examples to hold against it': those with a letter.
   pub lettered : Lettered

@@ -1,7 +1,8 @@
 -- The statements of specs/Statements.antt, proved.
 use Prim.Native.Nat.{ℕ}
-use mathlib.Core.Path.{refl, sym, ap, _∙_}
+use mathlib.Core.Path.{refl, ap}
 use lib.Dec.{lit<}
+use Rattle.basis.proofs.Order.{one-outcome}
 use Rattle.digest.specs.Fnv.{START}
 use Rattle.digest.specs.Statements.{Fnv1a, WordBytes, Determined}
 use Rattle.digest.proofs.Fnv.{low-byte, below, continued}
@@ -26,4 +27,4 @@ wordBytes =
 
 pub determined : Determined
 determined =
-    record { answer = λ one other number p q. ap (λ (n : ℕ). record { value = n }) (p ∙ sym q) }
+    record { answer = λ number. one-outcome (λ a b e. ap (λ (n : ℕ). record { value = n }) e) }

@@ -7,6 +7,7 @@ use lib.IntN.{ℤ, pos, negℤ}
 use lib.ListN.{length}
 use mir.Syntax.{w32}
 use mir.Val.{SFits, toZ}
+use Rattle.basis.specs.Order.{OneOutcome}
 use Rattle.basis.specs.LittleEndian.{valueOf, Bytes}
 use Rattle.digest.specs.declared.Digest.{Digest}
 use Rattle.digest.specs.Fnv.{fnv, digestOf}
@@ -38,5 +39,4 @@ pub record WordBytes : Type 0 where
 -- number the answer's value is.
 pub record Determined : Type 0 where
   -- `Digest::new`, `Digest::of_state`, `Digest::bytes`, `Digest::word`, `Digest::words`
-  pub answer : (one other : Digest) (number : ℕ)
-      → one .value ≡ number → other .value ≡ number → one ≡ other
+  pub answer : (number : ℕ) → OneOutcome (λ (digest : Digest). digest .value) number

@@ -1,5 +1,5 @@
 -- The statements of specs/Statements.antt, proved.
-use mathlib.Core.Path.{sym, _∙_}
+use Rattle.basis.proofs.Order.{one-result}
 use Rattle.record.proofs.Logs.{all-within}
 use Rattle.yard.proofs.Every.{passes, all-pass}
 use Rattle.fleet.specs.State.{soundState}
@@ -16,7 +16,7 @@ use Rattle.fleet.proofs.Rows.{course-fits, rows-made, rows-earlier}
 use Rattle.fleet.proofs.Back.{back-state, back-row}
 
 pub determined : Determined
-determined = record { cleared = λ rows p q. p ∙ sym q }
+determined = record { cleared = λ rows. one-result }
 
 pub words : Words
 words =

@@ -53,8 +53,7 @@ unfoldable pub soundState : World → List ℤ → Bool
 soundState world state =
     every (world .yard .b) (λ i. soundCarrier (freeFor world i state) (carrier i state))
 
--- 'for each carrier x, y, ..', 'At the start u, v and lever are 0': the start of the carriers below
--- i.
+-- 'At the start u, v and lever are 0': the start of the carriers below i.
 unfoldable pub startTo : List ℤ → ℕ → List ℤ
 startTo boxes zero = []
 startTo boxes (suc i) = startTo boxes i ++ wordsOf (atRest (word boxes i 0) (word boxes i 1))

@@ -8,6 +8,7 @@ use mathlib.Core.Option.{Option}
 use lib.IntN.{ℤ, pos}
 use lib.ListN.{length, replicate}
 use Rattle.basis.specs.Numbers.{rowCount}
+use Rattle.basis.specs.Order.{OneResult}
 use Rattle.record.specs.declared.bytes.Record.{Record}
 use Rattle.record.specs.Log.{records}
 use Rattle.record.specs.Held.{leverAt}
@@ -25,8 +26,7 @@ use Rattle.fleet.specs.Fits.{LogFits, StateFits, RowsFit}
 -- 'any two outcomes allowed by it coincide', for the contract of the one public entry.
 pub record Determined : Type 0 where
   -- `clear_rows`
-  pub cleared : (rows : List ℤ) {a b : List ℤ} → a ≡ replicate (length rows) (pos 0)
-      → b ≡ replicate (length rows) (pos 0) → a ≡ b
+  pub cleared : (rows : List ℤ) → OneResult (replicate (length rows) (pos 0))
 
 -- 'five i32 words for each carrier, in carrier order': a carrier put in its place.
 pub record Words : Type 0 where

@@ -1,6 +1,5 @@
 -- What a call is lent, what it leaves of it, and the world and the records that they hold.
 use Prim.Native.Nat.{ℕ}
-use mathlib.Core.Path.{_≡_}
 use mathlib.Core.List.{List}
 use lib.IntN.{ℤ}
 use Rattle.basis.specs.Order.{Answer, refused, accepted}
@@ -41,10 +40,14 @@ pub record Made (A : Type 0) : Type 0 where
 abbrev pub made : {A : Type 0} → A → List ℤ → List ℤ → List ℕ → Made A
 made result state rows log = record { result = result; state = state; rows = rows; log = log }
 
+-- The same buffers, with the result as `says` reads it.
+abbrev pub tells : {A C : Type 0} → (C → A) → Made C → Made A
+tells says m = made (says (m .result)) (m .state) (m .rows) (m .log)
+
 -- 'a refusal changes no session and no buffer'; an accepted call leaves what it makes.
 abbrev pub leaves : {A : Type 0} → Lent → Answer (Made A) → Made (Answer A)
 leaves l (refused number) = made (refused number) (l .state) (l .rows) (l .log)
-leaves l (accepted m) = made (accepted (m .result)) (m .state) (m .rows) (m .log)
+leaves l (accepted m) = tells accepted m
 
 -- What a call that may change one slice alone answers, and what it leaves there.
 pub record Filled (A B : Type 0) : Type 0 where
@@ -59,9 +62,3 @@ filled answer out = record { answer = answer; out = out }
 abbrev pub fill : {A B : Type 0} → A → (ℕ → A) → List B → Answer (List B) → Filled A B
 fill done refusal before (refused number) = filled (refusal number) before
 fill done refusal before (accepted out) = filled done out
-
--- Any two outcomes of which a contract says that they come to this are the same.
-abbrev pub OneFilled : {A B : Type 0} → Filled A B → Type 0
-OneFilled {A} {B} this =
-    (a b : A) (out out′ : List B) → filled a out ≡ this → filled b out′ ≡ this
-    → (a ≡ b) × (out ≡ out′)

@@ -1,4 +1,5 @@
--- Document 01, '*Sound* means', in its words and order.
+-- Document 01, '*Sound* means', in its words; the clock's share is in `soundClock`, the log's in
+-- `soundBuffer`, each carrier's in `soundState`.
 use Prim.Native.Nat.{ℕ, _*_}
 use mathlib.Core.Bool.{Bool, _&&_}
 use lib.Dec.{eqb}
@@ -12,8 +13,7 @@ use Rattle.fleet.specs.State.{soundState}
 use Rattle.session.specs.declared.Session.{Session}
 use Rattle.session.specs.Lent.{Lent, worldIn}
 
--- Rule 10, 'exactly W·H cell bytes, 4·B world words, 5·B state words': the lengths that replay
--- asks.
+-- Rule 10, 'exactly W·H cell bytes, 4·B world words, 5·B state words': the lengths of replay.
 unfoldable pub worldRoom : Yard → ℕ → ℕ → ℕ → Bool
 worldRoom yard cells boxes state =
     eqb cells (yard .w * yard .h)

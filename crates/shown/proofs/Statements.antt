@@ -2,7 +2,7 @@
 use Prim.Native.Nat.{ℕ, _+_, _<_, _≤_}
 use native.Mathlib.Omega.{arith}
 use native.Mathlib.Nat.{le-of-lt}
-use mathlib.Core.Path.{_≡_, refl, sym, ap, _∙_}
+use mathlib.Core.Path.{_≡_, refl, ap}
 use mathlib.Core.Bool.{false}
 use lib.IntN.{ℤ, pos, negsuc, natAbs}
 use lib.Signed.{natAbs-le}
@@ -13,9 +13,10 @@ use mir.Syntax.{w32}
 use mir.Val.{Fits, SFits}
 use Rattle.basis.specs.Numbers.{stepLength}
 use Rattle.basis.specs.Order.{Answer, refused}
+use Rattle.basis.proofs.Order.{one-outcome, one-result}
 use Rattle.shown.specs.Blend.{whole, blendOf}
 use Rattle.shown.specs.Answer.{answerOf}
-use Rattle.shown.specs.Statements.{Determined, Coordinate, ShownPlace, Examples}
+use Rattle.shown.specs.Statements.{Determined, Between, ShownPlace, Examples}
 use Rattle.shown.specs.declared.Place.{Place}
 use Rattle.shown.specs.declared.Shown.{Shown}
 use Rattle.shown.specs.declared.Shown.the-variants.{At, Refused}
@@ -32,9 +33,9 @@ same-answer (Refused n) (Refused m) e = let same : n ≡ m = number-of e in ap R
 
 pub determined : Determined
 determined = record {
-  blend = λ p c remainder d e. d ∙ sym e;
-  shown = λ px py cx cy remainder d e. d ∙ sym e;
-  answer = same-answer;
+  blend = λ p c remainder. one-result;
+  shown = λ px py cx cy remainder. one-result;
+  answer = λ this. one-outcome same-answer;
 }
 
 unrounded : (z : ℤ) → SFits w32 z → toSigned 31 (whole z) ≡ z
@@ -49,15 +50,16 @@ shownPlace = record { coordinate = coordinate; exact = unrounded; pattern = patt
     room : (p c : ℤ) → SFits w32 p → SFits w32 c → natAbs p + natAbs c ≤ 4294967296
     room p c P C = omega (arith, natAbs-le p (P .sfits), natAbs-le c (C .sfits))
 
-    coordinate : (length : ℕ) (p c : ℤ) → 0 < length → Fits w32 length
-        → SFits w32 p → SFits w32 c → Coordinate length p c
-    coordinate length p c L fits P C =
+    coordinate : (length : ℕ) (p c : ℤ) (remainder : ℕ) → Fits w32 length → remainder < length
+        → SFits w32 p → SFits w32 c → Between remainder p c (blendOf length p c remainder)
+    coordinate length p c remainder fits h P C =
         let size : natAbs p + natAbs c ≤ most = omega (arith, room p c P C) in
         let short : length ≤ most = omega arith in
+        let L : 0 < length = omega arith in
         record {
-          start = start length p c L short size;
-          rest = λ remainder h. rest length p c L short size remainder (omega arith);
-          between = λ remainder h. between length p c L short size remainder (le-of-lt h);
+          within = between length p c L short size remainder (le-of-lt h);
+          start = λ e. rw e (start length p c L short size);
+          rest = rest length p c L short size remainder (omega arith);
         }
 
     -- Every u32 is at most 214,749 lengths of 20,000.

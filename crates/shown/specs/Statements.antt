@@ -8,42 +8,36 @@ use lib.Ieee.{Float, binary64, toSigned, toBits, isNan}
 use mir.Syntax.{w32}
 use mir.Val.{Fits, SFits}
 use Rattle.basis.specs.Numbers.{stepLength}
+use Rattle.basis.specs.Order.{Answer, OneOutcome, OneResult}
 use Rattle.shown.specs.Blend.{whole, blendOf, isBetween}
 use Rattle.shown.specs.Answer.{shownPlace, answerOf}
 use Rattle.shown.specs.declared.Place.{Place}
-use Rattle.shown.specs.declared.Shown.{Shown}
 
 -- 'any two outcomes allowed by it coincide', for the contract of each public entry.
 pub record Determined : Type 0 where
   -- `blend`
-  pub blend : (p c : ℤ) (remainder : ℕ) {a b : Float}
-      → a ≡ blendOf stepLength p c remainder
-      → b ≡ blendOf stepLength p c remainder
-      → a ≡ b
+  pub blend : (p c : ℤ) (remainder : ℕ) → OneResult (blendOf stepLength p c remainder)
   -- `Place::shown`
-  pub shown : (px py cx cy : ℤ) (remainder : ℕ) {a b : Place}
-      → a ≡ shownPlace stepLength px py cx cy remainder
-      → b ≡ shownPlace stepLength px py cx cy remainder
-      → a ≡ b
+  pub shown : (px py cx cy : ℤ) (remainder : ℕ)
+      → OneResult (shownPlace stepLength px py cx cy remainder)
   -- No two answers stand for the same place or number.
-  pub answer : (a b : Shown) → answerOf a ≡ answerOf b → a ≡ b
+  pub answer : (this : Answer Place) → OneOutcome answerOf this
 
--- One coordinate, in a step of one length from p to c. Floats are equal bit for bit: the sign of a
+-- One coordinate, shown so long after the last step. Floats are equal bit for bit: the sign of a
 -- zero counts.
-pub record Coordinate (length : ℕ) (p c : ℤ) : Type 0 where
-  -- 'it equals p when the remainder is 0'
-  pub start : blendOf length p c 0 ≡ whole p
-  -- 'or p equals c', whatever u32 the remainder is.
-  pub rest : (remainder : ℕ) → Fits w32 remainder → p ≡ c → blendOf length p c remainder ≡ whole p
-  -- 'It lies between p and c, ends allowed', for any remainder below the length.
-  pub between : (remainder : ℕ) → remainder < length
-      → isBetween p c (blendOf length p c remainder) ≡ true
+pub record Between (remainder : ℕ) (p c : ℤ) (shown : Float) : Type 0 where
+  -- 'It lies between p and c, ends allowed;
+  pub within : isBetween p c shown ≡ true
+  -- it equals p when the remainder is 0
+  pub start : remainder ≡ 0 → shown ≡ whole p
+  -- or p equals c'.
+  pub rest : p ≡ c → shown ≡ whole p
 
 -- The shown place of a carrier.
 pub record ShownPlace : Type 0 where
   -- Every two i32, at every u32 step length but 0 (document 02, §13: also 10,000 and 40,000).
-  pub coordinate : (length : ℕ) (p c : ℤ) → 0 < length → Fits w32 length
-      → SFits w32 p → SFits w32 c → Coordinate length p c
+  pub coordinate : (length : ℕ) (p c : ℤ) (remainder : ℕ) → Fits w32 length → remainder < length
+      → SFits w32 p → SFits w32 c → Between remainder p c (blendOf length p c remainder)
   -- An i32 isn't rounded to be an f64: as an i32 again it is itself.
   pub exact : (z : ℤ) → SFits w32 z → toSigned 31 (whole z) ≡ z
   -- 'It is exactly this bit pattern': whatever is given, no NaN, which has more than one.

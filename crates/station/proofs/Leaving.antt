@@ -4,13 +4,13 @@ use mathlib.Core.Path.{_≡_, refl, sym, ap, _∙_}
 use mathlib.Core.List.{List}
 use lib.IntN.{ℤ}
 use Rattle.basis.specs.Order.{Answer, refused, accepted}
-use Rattle.session.specs.Answers.{replay}
+use Rattle.session.specs.Answers.{replayLeaves}
 use Rattle.session.specs.Lent.{Lent, Made, Filled, filled}
 use Rattle.session.specs.Lent.{made, leaves as sessionLeaves}
 use Rattle.session.specs.declared.Replayed.{Replayed}
 use Rattle.session.specs.declared.Replayed.the-variants as replayed
 use Rattle.session.specs.declared.Session.{Session}
-use Rattle.station.specs.Left.{fills, DONE, left, leaves}
+use Rattle.station.specs.Left.{fills, DONE, left, leavesBy}
 use Rattle.station.specs.Words.{sessionWords}
 
 -- What replay answers, by its number.
@@ -20,13 +20,13 @@ replay-number (replayed.Refused number) = number
 
 -- Replay's answer and state are the C face's.
 module _ {r : Replayed} (before : List ℤ) {after : List ℤ} (a : Answer (List ℤ))
-    (e : filled r after ≡ replay before a) where
+    (e : filled r after ≡ replayLeaves before a) where
   replay-fills : filled (replay-number r) after ≡ fills before a
   replay-fills =
       ap (λ (x : Filled Replayed ℤ). filled (replay-number (x .answer)) (x .out)) e ∙ go a
     where
       go : (a : Answer (List ℤ))
-          → filled (replay-number (replay before a .answer)) (replay before a .out)
+          → filled (replay-number (replayLeaves before a .answer)) (replayLeaves before a .out)
           ≡ fills before a
       go (refused number) = refl
       go (accepted state) = refl
@@ -52,7 +52,7 @@ module _ {A : Type 0} (number-of : A → ℕ) (session-of : A → Session) (word
   answer-words (accepted x) = sessionWords (session-of x)
 
   leaving : left (answer-number a) state rows log (answer-words a)
-      ≡ leaves number-of session-of l words b
+      ≡ leavesBy number-of session-of l words b
   unfolding answer-number answer-words
   leaving =
       ap
@@ -65,19 +65,19 @@ module _ {A : Type 0} (number-of : A → ℕ) (session-of : A → Session) (word
           → left (answer-number (sessionLeaves l b .result)) (sessionLeaves l b .state)
           (sessionLeaves l b .rows) (sessionLeaves l b .log)
           (answer-words (sessionLeaves l b .result))
-          ≡ leaves number-of session-of l words b
+          ≡ leavesBy number-of session-of l words b
       go (refused number) = refl
       go (accepted m) = refl
 
   pub leaves-refused : {number : ℕ} → a ≡ refused number
-      → left number state rows log words ≡ leaves number-of session-of l words b
+      → left number state rows log words ≡ leavesBy number-of session-of l words b
   unfolding answer-number answer-words
   leaves-refused q =
       sym (ap (λ x. left (answer-number x) state rows log (answer-words x)) q) ∙ leaving
 
   pub leaves-accepted : {x : A} {after : List ℕ} → a ≡ accepted x
       → after ≡ sessionWords (session-of x)
-      → left (number-of x) state rows log after ≡ leaves number-of session-of l words b
+      → left (number-of x) state rows log after ≡ leavesBy number-of session-of l words b
   unfolding answer-number answer-words
   leaves-accepted {x} q put =
       ap (left (number-of x) state rows log) put

@@ -1,6 +1,6 @@
 -- The statements of specs/Statements.antt, proved.
 use Prim.Native.Nat.{ℕ}
-use mathlib.Core.Path.{_≡_, refl, sym, ap, _∙_}
+use mathlib.Core.Path.{_≡_, refl, sym, _∙_}
 use mathlib.Core.Bool.{Bool, true, false, _&&_}
 use mathlib.Core.List.{List, [], _∷_}
 use native.Mathlib.Omega.{arith}
@@ -10,21 +10,20 @@ use lib.ListN.{length}
 use borrow.Author.Tests.{eq-eqb, ne-eqb}
 use Rattle.basis.specs.Numbers.{ROOM, FAULT}
 use Rattle.basis.specs.Order.{Order, answer, refused, andThen, give}
-use Rattle.basis.proofs.Order.{passes, fails}
+use Rattle.basis.proofs.Order.{passes, fails, one-result}
 use Rattle.basis.proofs.Tests.{never, and-both}
 use Rattle.yard.specs.Rule9.{rangesHold}
 use Rattle.yard.specs.declared.world.Yard.{Yard}
 use Rattle.session.specs.Calls.{worldOrder, openOrder, readingOrder, deliverOrder}
 use Rattle.session.specs.Calls.{digestOrder, shownOrder}
-use Rattle.session.specs.Lent.{Lent, Filled, OneFilled}
+use Rattle.session.specs.Lent.{Lent}
 use Rattle.session.specs.Sound.{room}
 use Rattle.session.specs.declared.Session.{Session}
 use Rattle.session.proofs.Good.{bad-ranges}
 use Rattle.station.specs.Words.{sessionWords, sessionOf, nine}
-use Rattle.station.specs.Left.{Left}
 use Rattle.station.specs.Face.{openFace, readingFace, deliverFace, shows, digestFace}
 use Rattle.station.specs.Face.{shownFace, stepRecordsFace}
-use Rattle.station.specs.Statements.{NineWords, OneLeft, Determined, Refusals}
+use Rattle.station.specs.Statements.{NineWords, Determined, Refusals}
 use Rattle.station.specs.Statements.{Lengths, Thin}
 use Rattle.station.proofs.OneRecord.{read-no-room, not-eight}
 use Rattle.station.proofs.Showing.{wrong-out, shows-order}
@@ -43,33 +42,19 @@ session-back (a ∷ b ∷ []) long = absurd (omega arith)
 session-back (a ∷ []) long = absurd (omega arith)
 session-back [] long = absurd (omega arith)
 
-one-outcome : {A : Type 0} (x : Filled ℕ A) → OneFilled x
-one-outcome x r s out other p q =
-    let e = p ∙ sym q in (ap (λ y. y .answer) e, ap (λ y. y .out) e)
-
-one-left : (x : Left) → OneLeft x
-one-left x r s state state′ rows rows′ log log′ session session′ p q =
-    let e = p ∙ sym q in (
-      ap (λ (y : Left). y .number) e,
-      ap (λ (y : Left). y .state) e,
-      ap (λ (y : Left). y .rows) e,
-      ap (λ (y : Left). y .log) e,
-      ap (λ (y : Left). y .session) e,
-    )
-
 pub determined : Determined
 determined =
     record {
-      logSound = λ log r s p q. p ∙ sym q;
-      stepRecords = λ log step out. one-outcome _;
-      readRecord = λ bytes out. one-outcome _;
-      writeRecord = λ step carrier lever out. one-outcome _;
-      opens = λ yard reading l words. one-left _;
-      reading = λ reading l words. one-left _;
-      deliver = λ bytes l words. one-left _;
-      replay = λ yard steps cells boxes state log. one-outcome _;
-      digest = λ l words out. one-outcome _;
-      shown = λ carrier l words out. one-outcome _;
+      logSound = λ log. one-result;
+      stepRecords = λ log step out. one-result;
+      readRecord = λ bytes out. one-result;
+      writeRecord = λ step carrier lever out. one-result;
+      opens = λ yard reading l words. one-result;
+      reading = λ reading l words. one-result;
+      deliver = λ bytes l words. one-result;
+      replay = λ yard steps cells boxes state log. one-result;
+      digest = λ l words out. one-result;
+      shown = λ carrier l words out. one-result;
     }
 
 pub refusals : Refusals

@@ -65,8 +65,7 @@ deliverFace bytes l words =
     check (nine words) FAULT
     (deliverOrder (sessionOf words) l bytes)
 
--- A call that only shows something of a session, into a slice of so many: 14 for another length,
--- first.
+-- A call that shows something of a session in a slice of so many: first, 14 for another length.
 unfoldable pub shows : {A B : Type 0} → ℕ → List B → List ℕ → Order A → (A → List B)
     → Order (List B)
 shows count out words order parts =

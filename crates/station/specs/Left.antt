@@ -8,7 +8,8 @@ use Rattle.session.specs.Lent.{Lent, Made, Filled, fill}
 use Rattle.session.specs.declared.Session.{Session}
 use Rattle.station.specs.Words.{sessionWords}
 
--- 'An accepted call other than a delivery gives its result and none of these numbers': 255 is none.
+-- 'An accepted call other than a delivery gives its result and none of these numbers': 255 isn't
+-- one of them.
 abbrev pub DONE : ℕ
 DONE = 255
 
@@ -30,18 +31,18 @@ abbrev pub left : ℕ → List ℤ → List ℤ → List ℕ → List ℕ → Le
 left number state rows log session =
     record { number = number; state = state; rows = rows; log = log; session = session }
 
--- A refusal leaves all 'as before'; an accepted call leaves what it makes, and the words of its
--- session.
-abbrev pub leaves : {A : Type 0} → (A → ℕ) → (A → Session) → Lent → List ℕ → Answer (Made A) → Left
-leaves numberOf sessionOf l words (refused number) =
+-- A refusal leaves all 'as before'; an accepted call what it makes, and its session's words.
+abbrev pub leavesBy : {A : Type 0} → (A → ℕ) → (A → Session) → Lent → List ℕ → Answer (Made A)
+    → Left
+leavesBy numberOf sessionOf l words (refused number) =
     left number (l .state) (l .rows) (l .log) words
-leaves numberOf sessionOf l words (accepted m) =
+leavesBy numberOf sessionOf l words (accepted m) =
     left (numberOf (m .result)) (m .state) (m .rows) (m .log) (sessionWords (sessionOf (m .result)))
 
 -- Opening and a reading: 255 and the session.
 abbrev pub leavesRunning : Lent → List ℕ → Answer (Made Session) → Left
-leavesRunning = leaves (λ session. DONE) (λ session. session)
+leavesRunning = leavesBy (λ session. DONE) (λ session. session)
 
 -- A delivery: 0 or 1, and the session.
 abbrev pub leavesDelivered : Lent → List ℕ → Answer (Made Delivery) → Left
-leavesDelivered = leaves (λ delivery. delivery .number) (λ delivery. delivery .session)
+leavesDelivered = leavesBy (λ delivery. delivery .number) (λ delivery. delivery .session)

@@ -8,18 +8,18 @@ use lib.IntN.{ℤ}
 use lib.ListN.{length}
 use Rattle.basis.specs.Numbers.{ROOM, FAULT, mostCarriers}
 use Rattle.basis.specs.Order.{Answer, refused, accepted, answer, andThen, give}
+use Rattle.basis.specs.Order.{OneResult}
 use Rattle.record.specs.Bytes.{readOrder, writeOrder}
 use Rattle.record.specs.declared.bytes.Record.{Record}
 use Rattle.yard.specs.Rule9.{rangesHold}
 use Rattle.yard.specs.declared.world.Yard.{Yard}
 use Rattle.session.specs.Calls.{openOrder, readingOrder, deliverOrder, replayOrder}
 use Rattle.session.specs.Calls.{Delivery, digestOrder, shownOrder}
-use Rattle.session.specs.Lent.{Lent, Made, filled, OneFilled}
+use Rattle.session.specs.Lent.{Lent, Made, filled}
 use Rattle.session.specs.Sound.{room, sound}
 use Rattle.session.specs.declared.Session.{Session}
 use Rattle.station.specs.Words.{sessionWords, sessionOf, nine}
-use Rattle.station.specs.Left.{fills, Left, left, leavesRunning}
-use Rattle.station.specs.Left.{leavesDelivered}
+use Rattle.station.specs.Left.{fills, left, leavesRunning, leavesDelivered}
 use Rattle.station.specs.Face.{logSound, stepRecordsFace, readRecordFace, writeRecordFace}
 use Rattle.station.specs.Face.{openFace, readingFace, deliverFace, digestFace, shownFace}
 
@@ -33,34 +33,26 @@ pub record NineWords : Type 0 where
   pub whole : (words : List ℕ) (l : Lent) → rangesHold (sessionOf words .yard) ≡ false
       → sound (sessionOf words) l ≡ false
 
--- Any two outcomes of which a contract says that they come to this are the same: of a call that may
--- change four slices.
-abbrev pub OneLeft : Left → Type 0
-OneLeft x =
-    (r s : ℕ) (state state′ rows rows′ : List ℤ) (log log′ session session′ : List ℕ)
-    → left r state rows log session ≡ x → left s state′ rows′ log′ session′ ≡ x
-    → (r ≡ s) × (state ≡ state′) × (rows ≡ rows′) × (log ≡ log′) × (session ≡ session′)
-
 -- 'any two outcomes allowed by it coincide', for the contract of each function.
 pub record Determined : Type 0 where
-  pub logSound : (log : List ℕ) (r s : ℕ) → r ≡ logSound log → s ≡ logSound log → r ≡ s
+  pub logSound : (log : List ℕ) → OneResult (logSound log)
   pub stepRecords : (log : List ℕ) (step : ℕ) (out : List ℕ)
-      → OneFilled (fills out (answer (stepRecordsFace log step out)))
-  pub readRecord : (bytes out : List ℕ) → OneFilled (fills out (answer (readRecordFace bytes out)))
+      → OneResult (fills out (answer (stepRecordsFace log step out)))
+  pub readRecord : (bytes out : List ℕ) → OneResult (fills out (answer (readRecordFace bytes out)))
   pub writeRecord : (step carrier lever : ℕ) (out : List ℕ)
-      → OneFilled (fills out (answer (writeRecordFace step carrier lever out)))
+      → OneResult (fills out (answer (writeRecordFace step carrier lever out)))
   pub opens : (yard : Yard) (reading : ℕ) (l : Lent) (words : List ℕ)
-      → OneLeft (leavesRunning l words (answer (openFace yard reading l words)))
+      → OneResult (leavesRunning l words (answer (openFace yard reading l words)))
   pub reading : (reading : ℕ) (l : Lent) (words : List ℕ)
-      → OneLeft (leavesRunning l words (answer (readingFace reading l words)))
+      → OneResult (leavesRunning l words (answer (readingFace reading l words)))
   pub deliver : (bytes : List ℕ) (l : Lent) (words : List ℕ)
-      → OneLeft (leavesDelivered l words (answer (deliverFace bytes l words)))
+      → OneResult (leavesDelivered l words (answer (deliverFace bytes l words)))
   pub replay : (yard : Yard) (steps : ℕ) (cells : List ℕ) (boxes state : List ℤ) (log : List ℕ)
-      → OneFilled (fills state (answer (replayOrder yard steps cells boxes state log)))
+      → OneResult (fills state (answer (replayOrder yard steps cells boxes state log)))
   pub digest : (l : Lent) (words out : List ℕ)
-      → OneFilled (fills out (answer (digestFace l words out)))
+      → OneResult (fills out (answer (digestFace l words out)))
   pub shown : (carrier : ℕ) (l : Lent) (words : List ℕ) (out : List Float)
-      → OneFilled (fills out (answer (shownFace carrier l words out)))
+      → OneResult (fills out (answer (shownFace carrier l words out)))
 
 -- 'the number comes back, and the session and all lent bytes and words are as before'.
 pub record Refusals : Type 1 where

@@ -1,5 +1,6 @@
 -- The statements of specs/Statements.antt, proved.
-use mathlib.Core.Path.{refl, sym, _∙_}
+use mathlib.Core.Path.{refl}
+use Rattle.basis.proofs.Order.{one-result}
 use Rattle.yard.specs.Statements.{Determined, Free, Rule9, Every, Table, Move, Step}
 use Rattle.yard.proofs.Every.{passes, all-pass}
 use Rattle.yard.proofs.Fits.{ranges, cells, sizes, starts}
@@ -14,9 +15,9 @@ free = record { means = reading; left = left; above = above; near = near }
 pub determined : Determined
 determined =
     record {
-      ranges = λ yard p q. p ∙ sym q;
-      cells = λ cells p q. p ∙ sym q;
-      magnitude = λ z p q. p ∙ sym q;
+      ranges = λ yard. one-result;
+      cells = λ cells. one-result;
+      magnitude = λ z. one-result;
     }
 
 pub rule9 : Rule9

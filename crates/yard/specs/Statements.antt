@@ -7,6 +7,7 @@ use mathlib.Core.List.{List}
 use lib.IntN.{ℤ, pos, negsuc, natAbs}
 use lib.ListN.{getD, length}
 use Rattle.basis.specs.Numbers.{mostCarriers}
+use Rattle.basis.specs.Order.{OneResult}
 use Rattle.yard.specs.declared.world.Yard.{Yard}
 use Rattle.yard.specs.declared.world.Size.{Size}
 use Rattle.yard.specs.declared.levers.Axis.{Axis}
@@ -48,11 +49,11 @@ pub record Free : Type 0 where
 -- 'any two outcomes allowed by it coincide', for the contract of each public entry.
 pub record Determined : Type 0 where
   -- `ranges_hold`
-  pub ranges : (yard : Yard) {a b : Bool} → a ≡ rangesHold yard → b ≡ rangesHold yard → a ≡ b
+  pub ranges : (yard : Yard) → OneResult (rangesHold yard)
   -- `cells_hold`
-  pub cells : (cells : List ℕ) {a b : Bool} → a ≡ cellsHold cells → b ≡ cellsHold cells → a ≡ b
+  pub cells : (cells : List ℕ) → OneResult (cellsHold cells)
   -- `magnitude`
-  pub magnitude : (z : ℤ) {a b : ℕ} → a ≡ natAbs z → b ≡ natAbs z → a ≡ b
+  pub magnitude : (z : ℤ) → OneResult (natAbs z)
 
 -- A word from low to high, ends allowed, where low is at least 0.
 abbrev pub FromTo : ℕ → ℕ → ℤ → Type 0
