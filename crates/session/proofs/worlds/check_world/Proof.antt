@@ -1,10 +1,11 @@
 -- `worlds::check_world` meets its contract.
 use mathlib.Core.Bool.{true}
 use mathlib.Core.Path.{_≡_}
+use denote.Ref.{now}
 use borrow.Author.Needs.{needs}
 use borrow.Author.Tests.{not-true, not-false}
 use Rattle.basis.specs.Order.{answer}
-use Rattle.yard.specs.Rule9.{rangesHold}
+use Rattle.yard.specs.Rule9.{rangesHold, cellsHold, sizesHold}
 use Rattle.yard.proofs.Cases.{passed, failed}
 use Rattle.yard.proofs.Fits.{cells-fit, boxes-fit}
 use Rattle.session.specs.Calls.{worldOrder}
@@ -20,6 +21,15 @@ in-range e = passed (e .before .ranges-hold .ensures) (e .if1 .left)
 
 long : (e : tie.Else2) → start (e .before) .args .lengths ≡ true
 long e = not-false _ (e .if2 .left)
+
+-- So do the cells, and the sizes.
+celled : (e : tie.Else3) → cellsHold (now (start (e .before .before .before) .args .cells)) ≡ true
+celled e = passed (e .before .cells-hold .ensures) (e .if3 .left)
+
+sized : (e : tie.Else4)
+    → let s = start (e .before .before .before .before .before) in
+    sizesHold (s .args .yard) (now (s .args .boxes)) ≡ true
+sized e = passed (e .before .sizes-hold .ensures) (e .if4 .left)
 
 ranges-hold-requires : tie.Need-ranges-hold-requires
 ranges-hold-requires c κs = search needs
@@ -55,7 +65,7 @@ returns-4 c =
     rw (
       in-range (e .before),
       long e,
-      passed (third .before .cells-hold .ensures) (third .if3 .left),
+      celled third,
       failed (c .before .sizes-hold .ensures) (c .if4 .taken),
     )
 
@@ -64,10 +74,7 @@ starts-hold-requires c κs =
     let e = c .before .before .before .before in
     let room = start (e .before) .pre (long e) in (
       cells-fit _ (in-range (e .before)) _ (room .0),
-      (
-        boxes-fit _ (in-range (e .before)) _ (room .1),
-        passed (c .before .sizes-hold .ensures) (c .if4 .left),
-      ),
+      (boxes-fit _ (in-range (e .before)) _ (room .1), sized c),
     )
 
 returns-5 : tie.Need-returns-5
@@ -79,8 +86,8 @@ returns-5 c =
     rw (
       in-range (e .before),
       long e,
-      passed (third .before .cells-hold .ensures) (third .if3 .left),
-      passed (fourth .before .sizes-hold .ensures) (fourth .if4 .left),
+      celled third,
+      sized fourth,
       failed (c .before .starts-hold .ensures) (c .if5 .taken),
     )
 
@@ -93,8 +100,8 @@ returns-6 c =
     rw (
       in-range (e .before),
       long e,
-      passed (third .before .cells-hold .ensures) (third .if3 .left),
-      passed (fourth .before .sizes-hold .ensures) (fourth .if4 .left),
+      celled third,
+      sized fourth,
       passed (c .before .starts-hold .ensures) (c .if5 .left),
     )
 
