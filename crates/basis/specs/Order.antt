@@ -1,4 +1,5 @@
--- Document 01, 'Numbers given back' and 'Order': rules tested in turn, each with its number.
+-- Document 01, 'Numbers given back' and 'Order': rules tested in turn, each with its number; and
+-- 'any two outcomes allowed by it coincide', of a contract.
 use Prim.Native.Nat.{ℕ}
 use mathlib.Core.Path.{_≡_}
 use mathlib.Core.Bool.{Bool, true, false}

@@ -13,7 +13,7 @@ use Rattle.basis.specs.LittleEndian.{valueOf, littleEndian, Bytes}
 pub record ExactlyWhen : Type 1 where
   -- A number comes back if and only if a test with it is the first of the order that fails.
   pub number : {A : Type 0} (order : Order A) (n : ℕ) → (answer order ≡ refused n) ↔ First n order
-  -- It is the first that fails: the top test fails and has it, or it passes and the rest decides.
+  -- With a test on top: it fails and has this number, or it passes and the rest decides.
   pub first : {A : Type 0} (test : Bool) (number : ℕ) (rest : Order A) (n : ℕ)
       → First n (check test number rest)
       ↔ (((test ≡ false) × (number ≡ n)) ⊎ ((test ≡ true) × First n rest))

@@ -77,8 +77,7 @@ module _ (world : World) (opens : Opens world) (s : Session (model world)) (k : 
 
   as-taken : (bytes : List ℕ) {new : Session (model world)}
       → answerTo s (delivery bytes) ≡ accepted (taken new) → Taken world (handed world s) bytes
-  as-taken bytes {new} e =
-      record { made = _; answer = answered bytes e; number = refl }
+  as-taken bytes e = record { made = _; answer = answered bytes e; number = refl }
 
   -- What a delivery that was taken leaves, and hands on.
   module _ (bytes : List ℕ) {new : Session (model world)}

@@ -41,7 +41,10 @@ inPractice = stepIn (practice .yard) (practice .cells)
 -- One step in the '3 by 3 yard, wall only at column 2, row 2', row by row.
 abbrev pub inCorner : Held → Carrier → Carrier
 inCorner =
-    stepIn (record { w = 3; h = 3; b = 1 }) (0 ∷ 0 ∷ 0 ∷ 0 ∷ 0 ∷ 0 ∷ 0 ∷ 0 ∷ 1 ∷ [])
+    stepIn (record { w = 3; h = 3; b = 1 })
+    (0 ∷ 0 ∷ 0
+    ∷ 0 ∷ 0 ∷ 0
+    ∷ 0 ∷ 0 ∷ 1 ∷ [])
 
 -- A carrier at (x, y) with its speeds and its lever.
 abbrev pub at : ℕ → ℕ → ℤ → ℤ → ℕ → Carrier

@@ -192,7 +192,7 @@ pub record Demand3 (world : World) : Type 0 where
       → (stepsMade h ≡ stepsMade k)
       × (h .result .clock .remainder ≡ k .result .clock .remainder)
 
--- The shown place of carrier i: from the state before the last step to the state.
+-- Carrier i is shown between its place before the last step and its place now.
 pub record ShownBetween (session : Session) (l : Lent) (i : ℕ) (place : Place) : Type 0 where
   pub x : Between (session .clock .remainder)
       (carrier i (previous session l) .x) (carrier i (l .state) .x) (place .x)

@@ -29,7 +29,7 @@ same-answer : (a b : Shown) → answerOf a ≡ answerOf b → a ≡ b
 same-answer (At p) (At q) e = let same : p ≡ q = cc in ap At same
 same-answer (At p) (Refused n) e = cc
 same-answer (Refused n) (At q) e = cc
-same-answer (Refused n) (Refused m) e = let same : n ≡ m = number-of e in ap Refused same
+same-answer (Refused n) (Refused m) e = ap Refused (number-of e)
 
 pub determined : Determined
 determined = record {
@@ -44,7 +44,8 @@ unrounded (pos n) h = positive-back binary64 31 n (le→leb n most (omega arith)
 unrounded (negsuc n) h = negative-back binary64 31 n (lt→ltb n most (omega arith)) (h .sfits) .1
 
 pub shownPlace : ShownPlace
-shownPlace = record { coordinate = coordinate; exact = unrounded; pattern = pattern }
+shownPlace =
+    record { coordinate = coordinate; rest = still; exact = unrounded; pattern = pattern }
   where
     -- The size of a step between two i32.
     room : (p c : ℤ) → SFits w32 p → SFits w32 c → natAbs p + natAbs c ≤ 4294967296
@@ -61,6 +62,11 @@ shownPlace = record { coordinate = coordinate; exact = unrounded; pattern = patt
           start = λ e. rw e (start length p c L short size);
           rest = rest length p c L short size remainder (omega arith);
         }
+
+    still : (length : ℕ) (p : ℤ) (remainder : ℕ) → 0 < length → Fits w32 length
+        → Fits w32 remainder → SFits w32 p → blendOf length p p remainder ≡ whole p
+    still length p remainder L fits h P =
+        rest length p p L (omega arith) (omega (arith, room p p P P)) remainder (omega arith) refl
 
     -- Every u32 is at most 214,749 lengths of 20,000.
     pattern : (p c : ℤ) (remainder : ℕ) → SFits w32 p → SFits w32 c → Fits w32 remainder

@@ -23,8 +23,8 @@ pub record Determined : Type 0 where
   -- No two answers stand for the same place or number.
   pub answer : (this : Answer Place) → OneOutcome answerOf this
 
--- One coordinate, shown so long after the last step. Floats are equal bit for bit: the sign of a
--- zero counts.
+-- One coordinate, shown with this remainder. Floats are equal bit for bit: the sign of a zero
+-- counts.
 pub record Between (remainder : ℕ) (p c : ℤ) (shown : Float) : Type 0 where
   -- 'It lies between p and c, ends allowed;
   pub within : isBetween p c shown ≡ true
@@ -35,9 +35,12 @@ pub record Between (remainder : ℕ) (p c : ℤ) (shown : Float) : Type 0 where
 
 -- The shown place of a carrier.
 pub record ShownPlace : Type 0 where
-  -- Every two i32, at every u32 step length but 0 (document 02, §13: also 10,000 and 40,000).
+  -- Every two i32, every u32 step length and every remainder below it (document 02, §13).
   pub coordinate : (length : ℕ) (p c : ℤ) (remainder : ℕ) → Fits w32 length → remainder < length
       → SFits w32 p → SFits w32 c → Between remainder p c (blendOf length p c remainder)
+  -- 'or p equals c', whatever u32 the remainder is.
+  pub rest : (length : ℕ) (p : ℤ) (remainder : ℕ) → 0 < length → Fits w32 length
+      → Fits w32 remainder → SFits w32 p → blendOf length p p remainder ≡ whole p
   -- An i32 isn't rounded to be an f64: as an i32 again it is itself.
   pub exact : (z : ℤ) → SFits w32 z → toSigned 31 (whole z) ≡ z
   -- 'It is exactly this bit pattern': whatever is given, no NaN, which has more than one.

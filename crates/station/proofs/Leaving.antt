@@ -5,8 +5,7 @@ use mathlib.Core.List.{List}
 use lib.IntN.{ℤ}
 use Rattle.basis.specs.Order.{Answer, refused, accepted}
 use Rattle.session.specs.Answers.{replayLeaves}
-use Rattle.session.specs.Lent.{Lent, Made, Filled, filled}
-use Rattle.session.specs.Lent.{made, leaves as sessionLeaves}
+use Rattle.session.specs.Lent.{Lent, Made, made, leaves as sessionLeaves, Filled, filled}
 use Rattle.session.specs.declared.Replayed.{Replayed}
 use Rattle.session.specs.declared.Replayed.the-variants as replayed
 use Rattle.session.specs.declared.Session.{Session}

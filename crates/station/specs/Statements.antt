@@ -7,8 +7,7 @@ use lib.Ieee.{Float}
 use lib.IntN.{ℤ}
 use lib.ListN.{length}
 use Rattle.basis.specs.Numbers.{ROOM, FAULT, mostCarriers}
-use Rattle.basis.specs.Order.{Answer, refused, accepted, answer, andThen, give}
-use Rattle.basis.specs.Order.{OneResult}
+use Rattle.basis.specs.Order.{Answer, refused, accepted, answer, andThen, give, OneResult}
 use Rattle.record.specs.Bytes.{readOrder, writeOrder}
 use Rattle.record.specs.declared.bytes.Record.{Record}
 use Rattle.yard.specs.Rule9.{rangesHold}

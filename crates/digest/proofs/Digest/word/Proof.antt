@@ -1,4 +1,4 @@
--- `word` meets its contract: its four calls of `byte` are the definition over four bytes, unfolded.
+-- `word` meets its contract: its four calls of `byte` are the definition over four bytes.
 use Prim.Native.Nat.{_/_, _%_}
 use borrow.Author.Needs.{needs}
 use Rattle.digest.proofs.Fnv.{four}
