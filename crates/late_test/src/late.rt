@@ -1,7 +1,7 @@
 // Document 01, 'Going back': late records, repeats, orders, and the log when it is full.
-use super::practice::Practice;
-use super::practice::replay;
-use super::say;
+use desk::Practice;
+use desk::replay;
+use desk::say;
 use record::Record;
 
 pub fn run() {

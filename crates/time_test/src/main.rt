@@ -1,9 +1,10 @@
-// Document 01, 'The clock' and the shown place: readings.
-use super::practice::Practice;
-use super::say;
+// Document 01, 'The clock' and the shown place, by the calls of `session` on real buffers. The file
+// `stdout` holds what a model gives that was written from document 01 alone.
 use clock::Clock;
+use desk::Practice;
+use desk::say;
 
-pub fn run() {
+fn main() {
     grouped();
     cut();
     backward();

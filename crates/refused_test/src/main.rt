@@ -1,12 +1,14 @@
-// Document 01, 'Numbers given back': records, worlds, lengths and sessions that are refused.
-use super::answers;
-use super::practice::Practice;
-use super::say;
+// Document 01, 'Numbers given back': records, worlds, lengths and sessions that are refused, by the
+// calls of `session` on real buffers. The file `stdout` holds what a model gives that was written
+// from document 01 alone.
 use clock::Clock;
+use desk::Practice;
+use desk::answers;
+use desk::say;
 use session::Session;
 use yard::Yard;
 
-pub fn run() {
+fn main() {
     records();
     worlds();
     lengths();

@@ -5,8 +5,8 @@ use native.Mathlib.Omega.{arith}
 use lib.Seq.{length-take-le}
 use denote.Ref.{now}
 use borrow.Author.Needs.{needs}
-use Rattle.examples.proofs.practice.replay_front.Statement.{statement}
-use Rattle.examples.proofs.practice.replay_front.Tie as tie
+use Rattle.desk.proofs.practice.replay_front.Statement.{statement}
+use Rattle.desk.proofs.practice.replay_front.Tie as tie
 
 mul-replay : tie.Need-mul-replay
 mul-replay c = search needs

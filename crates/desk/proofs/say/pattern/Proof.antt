@@ -4,8 +4,8 @@ use mathlib.Core.Bool.{true, not, true≢false}
 use lib.Dec.{T}
 use lib.Ieee.{Float, nan, inf, fin, eq, isNan}
 use borrow.Author.Needs.{needs}
-use Rattle.examples.proofs.say.pattern.Statement.{statement}
-use Rattle.examples.proofs.say.pattern.Tie as tie
+use Rattle.desk.proofs.say.pattern.Statement.{statement}
+use Rattle.desk.proofs.say.pattern.Tie as tie
 
 -- What equals itself is no NaN.
 no-nan : (x : Float) → eq x x ≡ true → T (not (isNan x))

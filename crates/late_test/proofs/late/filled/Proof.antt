@@ -1,8 +1,8 @@
 -- `filled` meets its contract.
 use Prim.Native.Nat.{_≤_, _-_}
 use borrow.Author.Needs.{needs}
-use Rattle.examples.proofs.late.filled.Statement.{statement}
-use Rattle.examples.proofs.late.filled.Tie as tie
+use Rattle.late_test.proofs.late.filled.Statement.{statement}
+use Rattle.late_test.proofs.late.filled.Tie as tie
 
 abbrev Inv-loop : tie.InvT-loop
 Inv-loop k₀ step₀ k step = step ≤ 2148

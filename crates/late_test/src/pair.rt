@@ -1,7 +1,7 @@
 // Two carriers in the cells of the practice yard.
-use super::answers;
-use super::practice::Practice;
-use super::say;
+use desk::Practice;
+use desk::answers;
+use desk::say;
 use record::Record;
 use session::Session;
 use yard::Yard;
