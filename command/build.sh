@@ -14,12 +14,13 @@ build() {
     fi
     prove
     [ -x "$program" ] || stop "rt found no fault, but there is no program $home/$program"
-    fits || sum_of "$program" > "$hash" || stop "the program's hash can't be kept: $home/$hash"
+    fits || { sum_of "$program" > "$hash"; } 2> /dev/null ||
+        stop "the hash of the program can't be kept in $home/$hash"
 }
 
 # fits: the program has the hash that was kept when rt built it.
 fits() {
-    [ -x "$program" ] && [ -r "$hash" ] && [ "$(cat "$hash")" = "$(sum_of "$program")" ]
+    [ -x "$program" ] && [ -f "$hash" ] && [ "$(cat "$hash")" = "$(sum_of "$program")" ]
 }
 
 # lock: waits until no other run is at work here. The system keeps the lock for as long as this run
@@ -27,10 +28,10 @@ fits() {
 lock() {
     said=$(mkdir -p target 2>&1) || stop "$home/target can't be made: ${said##*: }"
     { command exec 9> target/lock; } 2> "$scratch/said" ||
-        stop "$home/target can't be written: $(cause "$scratch/said")"
+        stop "$home/target can't be written: $(cause < "$scratch/said")"
     ! flock -n 9 2> /dev/null || return 0
     say "another run is at work in this checkout; waiting for it to end"
-    await flock 9 || stop "the lock can't be had: $home/target/lock: $(cause "$scratch/said")"
+    await flock 9 || stop "the lock can't be had: $home/target/lock: $(cause < "$scratch/said")"
 }
 
 # prove: rt proves and builds what is stale, and meanwhile it is said which crate is being proved.

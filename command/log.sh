@@ -35,8 +35,8 @@ print_log() {
 
 # make_log: the log of a text, or the first line that can't be used.
 make_log() {
-    take_in 1048577
-    [ "$(wc -c < "$scratch/input")" -le 1048576 ] || stop "the text is longer than 1,048,576 bytes"
+    take_in 262145
+    [ "$(wc -c < "$scratch/input")" -le 262144 ] || stop "the text is longer than 262,144 bytes"
     [ "$(tr -cd '\000' < "$scratch/input" | wc -c)" -eq 0 ] ||
         stop "this is no text, since it has zero bytes; a log is printed by wuthracomb log FILE"
     LC_ALL=C awk -v carriers=32 -f "$home/command/record.awk" -f "$home/command/make.awk" \

@@ -7,7 +7,7 @@ begin_watch() {
     count=$(printf '%s\n' "$crates" | wc -l | tr -d ' ')
     for crate in $crates; do rm -f "target/log/$crate.say"; done
     began=$(date +%s)
-    watch 3<&- 9>&- &
+    watch &
     watcher=$!
 }
 
@@ -17,8 +17,9 @@ end_watch() {
     watcher=''
 }
 
-# watch: looks every second, until it is ended or its run is gone.
+# watch: looks every second, until it is ended or its run is gone. It holds neither input nor lock.
 watch() {
+    exec 3<&- 9>&-
     told=' '
     trap 'look; erase; exit 0' TERM
     while kill -0 $$ 2> /dev/null; do

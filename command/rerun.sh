@@ -20,10 +20,10 @@ run_program() {
     ended=$?
     case $ended in
     0) ;;
-    126 | 127) stop "the program can't be started: $(cause "$scratch/said")" ;;
+    126 | 127) stop "the program can't be started: $(cause < "$scratch/said")" ;;
     *) stop "the program $(how "$ended"), so there is no result" ;;
     esac
-    [ -s "$scratch/out" ] || stop "the program wrote no result: $(cause "$scratch/said")"
+    [ -s "$scratch/out" ] || stop "the program wrote no result: $(cause < "$scratch/said")"
     is_result "$scratch/out" || stop "the program wrote no whole result: $(tr '\000\n' '  ' < "$scratch/out")"
 }
 
