@@ -45,25 +45,7 @@ prove() {
     ! any_begun || say "proved and built in $(($(date +%s) - began)) s"
 }
 
-# first_error: what rt named first: a fault of the system, else of a crate, else its last line.
+# first_error: what rt named as the cause, in a line.
 first_error() {
-    LC_ALL=C awk -v root="$home/" '
-        function keep(rank) {
-            if (!(rank in found)) found[rank] = $0
-        }
-        /No space left|Permission denied|Read-only file|quota exceeded/ { keep(1) }
-        /: error/ { keep(2) }
-        /^rt: .*(NOT PROVED|FAILED|not run)/ && !/^rt: FAILED:/ { keep(3) }
-        NF { found[4] = $0 }
-        END {
-            for (rank = 1; !(rank in found) && rank < 4; rank++) continue
-            line = found[rank] == "" ? "rt ended without a word" : found[rank]
-            while (i = index(line, root)) line = substr(line, 1, i - 1) substr(line, i + length(root))
-            if (length(line) > 240) {
-                line = substr(line, 1, 240)
-                sub(/[\300-\377][\200-\277]*$/, "", line)
-                line = line " .."
-            }
-            print line
-        }' "$scratch/rt" "$scratch/said"
+    ROOT=$home/ LC_ALL=C awk -f "$home/command/error.awk" "$scratch/rt" "$scratch/said"
 }

@@ -80,28 +80,5 @@ is_proved() {
 
 # in_order NAME: NAME and the crates that it stands on by crates.txt, level by level, as rt goes.
 in_order() {
-    awk -v name="$1" '
-        function visit(crate,    below, n, k) {
-            if (crate in level || !(crate in stands_on)) return
-            level[crate] = 0
-            n = split(stands_on[crate], below)
-            for (k = 1; k <= n; k++) {
-                visit(below[k])
-                if (below[k] in level && level[below[k]] >= level[crate])
-                    level[crate] = level[below[k]] + 1
-            }
-            found[++count] = crate
-        }
-        { sub(/#.*/, "") }
-        /:/ {
-            crate = $1
-            sub(/:.*/, "", crate)
-            sub(/^[^:]*:/, "")
-            stands_on[crate] = $0
-        }
-        END {
-            visit(name)
-            for (l = 0; l < count; l++)
-                for (k = 1; k <= count; k++) if (level[found[k]] == l) print found[k]
-        }' crates.txt
+    awk -v name="$1" -f command/order.awk crates.txt
 }

@@ -23,8 +23,10 @@ run_program() {
     126 | 127) stop "the program can't be started: $(cause < "$scratch/said")" ;;
     *) stop "the program $(how "$ended"), so there is no result" ;;
     esac
-    [ -s "$scratch/out" ] || stop "the program wrote no result: $(cause < "$scratch/said")"
-    is_result "$scratch/out" || stop "the program wrote no whole result: $(tr '\000\n' '  ' < "$scratch/out")"
+    why=$(cause < "$scratch/said")
+    [ -s "$scratch/out" ] || stop "the program wrote no result${why:+: $why}"
+    is_result "$scratch/out" ||
+        stop "the program wrote no whole result: $(tr '\000\n' '  ' < "$scratch/out")"
 }
 
 # as_rt_does PROGRAM: runs it as rt does, with the kit's loader and C library, and its emulator where
