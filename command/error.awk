@@ -1,5 +1,5 @@
-# Of all that rt wrote, the line that names the cause: a fault of the system, else the first error of
-# the prover or the compiler, else what rt says of a crate, else the last line. Paths are shortened.
+# Of all that rt wrote, the line that names the cause: a fault of the system, else the first error
+# of prover or compiler, else what rt says of a crate, else the last line. Paths are shortened.
 
 function keep(rank) {
     if (!(rank in found)) found[rank] = $0

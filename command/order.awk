@@ -1,5 +1,5 @@
-# The crate `name` of crates.txt and those that it stands on, in the order in which rt proves them: a
-# crate's level is one more than the highest of those that it stands on.
+# The crate `name` of crates.txt and those that it stands on, in the order in which rt proves them:
+# a crate's level is one more than the highest of those that it stands on.
 
 { sub(/#.*/, "") }
 

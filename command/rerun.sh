@@ -29,8 +29,8 @@ run_program() {
         stop "the program wrote no whole result: $(tr '\000\n' '  ' < "$scratch/out")"
 }
 
-# as_rt_does PROGRAM: runs it as rt does, with the kit's loader and C library, and its emulator where
-# the kit has one, on a processor other than x86-64. Nothing of the environment reaches it.
+# as_rt_does PROGRAM: runs it as rt does, with the kit's loader and C library, and on a processor
+# other than x86-64 with the kit's emulator. Nothing of the environment reaches it.
 as_rt_does() {
     kit=$(rt doc)
     tools=${kit%/docs/*}/on/$(uname -m)/toolchain
