@@ -129,7 +129,7 @@ uint32_t wuthracomb_reading(uint64_t reading,
                             const int32_t *boxes, size_t boxes_len,
                             int32_t *state, size_t state_len,
                             int32_t *rows, size_t rows_len,
-                            uint8_t *log, size_t log_len,
+                            const uint8_t *log, size_t log_len,
                             uint64_t *session, size_t session_len);
 
 /* Delivers a record, in any order and any number of times.
