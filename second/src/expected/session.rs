@@ -1,4 +1,4 @@
-//! A session whose calls write a line each, as `crates/examples` does.
+//! A session whose calls write a line each, as `crates/desk` does.
 
 use super::answers::refusal;
 use super::vectors::bytes_of;
