@@ -1,54 +1,52 @@
 -- The ten functions, number by number.
 use Prim.Native.Nat.{ℕ, _+_, _-_, _<_, _≤_}
 use mathlib.Core.Path.{_≡_, refl, sym, ap, subst, _∙_}
-use mathlib.Core.Logic.{_↔_, _⊎_, _≢_, ⊎-elim, inl, inr, Iff·trans}
+use mathlib.Core.Logic.{_↔_, _⊎_, ⊎-elim, inl, inr, Iff·trans}
 use mathlib.Core.Bool.{Bool, true, false, cond, _&&_}
-use mathlib.Core.List.{List, [], _∷_}
-use native.Mathlib.Omega.{arith}
+use mathlib.Core.List.{List}
 use mathlib.Core.Option.{Option, none, some, Option·none-ne-some}
+use native.Mathlib.Omega.{arith}
 use borrow.Author.Tests.{eqb-true, eqb-false}
-use lib.Dec.{lit≤, leb, ltb, eqb}
-use lib.Ieee.{Float}
+use lib.Dec.{lit≤, leb, eqb}
 use lib.IntN.{ℤ}
 use lib.ListN.{length}
-use Rattle.basis.specs.Numbers.{WORLD, ROOM, LOG, STEP, FAULT, mostCarriers, mostSteps, stepLength}
-use Rattle.basis.specs.Order.{Answer, refused, accepted, Order, check, give, answer, andThen}
-use Rattle.basis.proofs.Tests.{never, says-eq, says-two, says-three}
-use Rattle.record.specs.Bytes.{recordOf, bytesOf, wellFormed, readOrder, writeOrder, limitsOrder}
-use Rattle.record.specs.Log.{recordsOf, soundLog}
-use Rattle.record.specs.Facts.{Formed, LogValid}
-use Rattle.record.proofs.Rules.{log-valid}
-use Rattle.record.specs.declared.bytes.Record.{Record}
 use Rattle.basis.specs.LittleEndian.{Bytes}
+use Rattle.basis.specs.Order.{Answer, refused, accepted, Order, answer, andThen}
+use Rattle.basis.proofs.Tests.{never, says-eq, says-two, says-three}
+use Rattle.record.specs.Bytes.{recordOf, wellFormed, readOrder, writeOrder, limitsOrder}
+use Rattle.record.specs.Facts.{Formed, LogValid}
 use Rattle.record.specs.Held.{leverAt}
+use Rattle.record.specs.Log.{soundLog}
 use Rattle.record.specs.Place.{byLever, rowServes}
+use Rattle.record.specs.declared.bytes.Record.{Record}
 use Rattle.record.proofs.Buffers.{held-climbs}
 use Rattle.record.proofs.Members.{held-lever, lever-held}
-use Rattle.fleet.specs.State.{soundState}
-use Rattle.session.specs.Lent.{Lent, Made, Filled, filled, heldIn, worldIn}
-use Rattle.session.specs.declared.Session.{Session}
+use Rattle.record.proofs.Rules.{log-valid}
 use Rattle.clock.specs.Reading.{givenBy, clockOrder}
-use Rattle.yard.specs.declared.world.Yard.{Yard}
-use Rattle.yard.specs.Rule9.{rangesHold, cellsHold, sizesHold, startsHold}
 use Rattle.yard.specs.Facts.{Valid}
+use Rattle.yard.specs.Rule9.{cellsHold, sizesHold, startsHold}
+use Rattle.yard.specs.declared.world.Yard.{Yard}
 use Rattle.yard.proofs.Fits.{ranges, cells as cells-iff, sizes as sizes-iff, starts}
 use Rattle.fleet.specs.Facts.{StateSound}
+use Rattle.fleet.specs.State.{soundState}
 use Rattle.fleet.proofs.Carriers.{state-sound}
-use Rattle.session.specs.Facts.{Sound, HeldHere, NoneHere, RowSound}
-use Rattle.session.proofs.Facts.{lengths-fit, room-fits, sound-means}
 use Rattle.session.specs.Calls.{worldOrder, openOrder, readingOrder, deliverOrder, replayOrder}
-use Rattle.session.specs.Calls.{digestOrder, shownOrder, opened, readOn, Delivery, takeIn, unchanged, foundIn}
-use Rattle.session.specs.Calls.{placeOrder, rowIn, previous}
+use Rattle.session.specs.Calls.{digestOrder, shownOrder, opened, readOn, Delivery, takeIn}
+use Rattle.session.specs.Calls.{unchanged, foundIn, placeOrder, rowIn, previous}
+use Rattle.session.specs.Facts.{Sound, HeldHere, NoneHere, RowSound}
+use Rattle.session.specs.Lent.{Lent, Made, Filled, filled, heldIn, worldIn}
+use Rattle.session.specs.declared.Session.{Session}
+use Rattle.session.proofs.Facts.{lengths-fit, room-fits, sound-means}
 use Rattle.session.proofs.Good.{good}
 use Rattle.station.specs.Face.{openFace, readingFace, deliverFace, digestFace, shownFace, shows}
-use Rattle.station.specs.Words.{sessionOf}
 use Rattle.station.specs.Face.{logSound, stepRecordsFace, readRecordFace, writeRecordFace}
 use Rattle.station.specs.Left.{Left, left, fills, leavesRunning, leavesDelivered}
 use Rattle.station.specs.Says.{LogSoundSays, DeliverSays}
+use Rattle.station.specs.Words.{sessionOf}
 use Rattle.station.proofs.Statements.{nineWords}
-use Rattle.face.specs.Table.{Table, Answers, Fills, Leaves, Gives, _when_or_, done}
 use Rattle.face.specs.Numbers.{openNumbers, readingNumbers, deliverNumbers, soundNumbers}
 use Rattle.face.specs.Statements.{ExactlyWhen}
+use Rattle.face.specs.Table.{Table, Fills, Leaves, Gives, _when_or_, done}
 use Rattle.face.proofs.Rungs.{By, told, like, rung, passed, end, joined, answers-by}
 use Rattle.face.proofs.Rungs.{else-fact, else-le, else-lt, else-eq, else-or, absent, present}
 
@@ -221,7 +219,8 @@ row-before : (s : Session) (l : Lent) → Sound s l
     ↔ ((0 < s .clock .steps) × (RowSound s l (s .clock .steps - 1) → ⊥))
 row-before s l sound = go (eqb (s .clock .steps) 0) refl
   where
-    row : (state : List ℤ) → (soundState (worldIn s l) state ≡ true) ↔ StateSound (worldIn s l) state
+    row : (state : List ℤ) → (soundState (worldIn s l) state ≡ true)
+        ↔ StateSound (worldIn s l) state
     row = state-sound (worldIn s l)
 
     go : (t : Bool) → eqb (s .clock .steps) 0 ≡ t

@@ -4,12 +4,11 @@ use mathlib.Core.Path.{_≡_, refl, sym, ap, subst, _∙_}
 use mathlib.Core.Logic.{_↔_, _⊎_, _≢_, ⊎-elim, inl, inr}
 use mathlib.Core.Bool.{Bool, true, false, _&&_, _||_}
 use native.Mathlib.Omega.{arith}
-use borrow.Author.Tests.{leb-false, lt-leb}
 use lib.Dec.{leb, ltb, eqb}
 use Rattle.basis.specs.Order.{Answer, refused, accepted, Order, check, give, answer}
+use Rattle.basis.proofs.Ladder.{not-so}
 use Rattle.basis.proofs.Order.{passes, fails, gives, given, apart}
 use Rattle.basis.proofs.Tests.{never, says-le, says-lt, says-eq}
-use Rattle.basis.proofs.Ladder.{not-so}
 use Rattle.face.specs.Table.{Table, _when_or_, done, Gives, Answers}
 
 -- Where a test fails, from what it says.
