@@ -54,7 +54,8 @@ module _ (session : Session) (l : Lent) where
       λ this. (λ e. sym says ∙ ap digestedOf e, λ e. digested-one out this (says ∙ e)) in
       record {
         fault = Iff·trans (by (digested.Refused 14)) digest-fault;
-        value = λ v. Iff·trans (by (digested.Value v)) (digest-given v);
+        value = Iff·trans (by (digested.Value value))
+            (Iff·trans (digest-given value) (λ (s, e). s, λ s. (s, refl)));
       }
 
   -- The row before the last step is sound, where there is one.
@@ -155,5 +156,6 @@ module _ (session : Session) (l : Lent) where
         record {
           fault = Iff·trans (by (shown.Refused 14)) shown-fault;
           carrier = Iff·trans (by (shown.Refused 3)) shown-carrier;
-          place = λ place. Iff·trans (by (shown.At place)) (shown-given place);
+          place = Iff·trans (by (shown.At at))
+              (Iff·trans (shown-given at) (λ (s, h, f, e). (s, h, f), λ (s, h, f). (s, h, f, refl)));
         }
