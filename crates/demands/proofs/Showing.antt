@@ -8,7 +8,7 @@ use native.Mathlib.Omega.{arith}
 use borrow.Author.Tests.{eqb-true, eqb-false}
 use lib.Dec.{ltb, eqb}
 use Rattle.basis.specs.Numbers.{FAULT, CARRIER}
-use Rattle.basis.specs.Order.{Answer, refused, accepted, Order, check, give, answer}
+use Rattle.basis.specs.Order.{refused, accepted, Order, check, give, answer}
 use Rattle.basis.proofs.Tests.{says-lt}
 use Rattle.basis.proofs.Ladder.{differs, not-lt, here-iff, both-iff, later-iff, pass-iff, give-iff}
 use Rattle.basis.proofs.Ladder.{lacks-give, lacks-check}
@@ -25,7 +25,6 @@ use Rattle.session.specs.declared.Session.{Session}
 use Rattle.session.specs.declared.Digested.{Digested}
 use Rattle.session.specs.declared.Digested.the-variants as digested
 use Rattle.session.specs.Lent.{Lent, worldIn}
-use Rattle.session.specs.Sound.{sound}
 use Rattle.session.specs.Calls.{digestOrder, shownOrder, shownOf, previous, rowIn}
 use Rattle.session.specs.Answers.{digestedOf}
 use Rattle.session.specs.Says.{DigestSays, ShownSays}
@@ -54,7 +53,8 @@ module _ (session : Session) (l : Lent) where
       λ this. (λ e. sym says ∙ ap digestedOf e, λ e. digested-one out this (says ∙ e)) in
       record {
         fault = Iff·trans (by (digested.Refused 14)) digest-fault;
-        value = λ v. Iff·trans (by (digested.Value v)) (digest-given v);
+        value = Iff·trans (by (digested.Value value))
+            (Iff·trans (digest-given value) (λ (s, e). s, λ s. (s, refl)));
       }
 
   -- The row before the last step is sound, where there is one.
@@ -155,5 +155,7 @@ module _ (session : Session) (l : Lent) where
         record {
           fault = Iff·trans (by (shown.Refused 14)) shown-fault;
           carrier = Iff·trans (by (shown.Refused 3)) shown-carrier;
-          place = λ place. Iff·trans (by (shown.At place)) (shown-given place);
+          place = Iff·trans (by (shown.At at))
+              (Iff·trans (shown-given at)
+              (λ (s, h, f, e). (s, h, f), λ (s, h, f). (s, h, f, refl)));
         }
