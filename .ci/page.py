@@ -72,11 +72,11 @@ def blocks():
             found.append(block)
         elif item and item[1] in LABELS and block:
             block.items.append((item[1], item[2]))
-        elif block and not line.startswith(("  ", "- ", "**")) and not block.items:
+        elif block and not block.items and not re.match(r"  |- |\*\*[A-Z]\d", line):
             block.sentence += " " + line
         elif block and line.startswith("  ") and block.items:
             label, text = block.items[-1]
             block.items[-1] = label, f"{text} {line.strip()}"
-        elif block or start or item and item[1] in LABELS or line.startswith(("|", "**")):
+        elif block or item and item[1] in LABELS or re.match(r"\||\*\*[A-Z]\d", line):
             faults.append((at, f"no line of a block: {line}"))
     return found, faults
