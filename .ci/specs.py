@@ -173,3 +173,7 @@ class Tree:
                 reached = self.reached([*terms, *entries])
                 yield block, reached - before
                 before |= reached
+
+    def believed(self, blocks):
+        """All that the blocks of 'What is signed' make her believe."""
+        return set().union(*(items for _, items in self.signed(blocks)))
