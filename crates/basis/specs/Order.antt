@@ -20,7 +20,8 @@ answer (check true number rest) = answer rest
 answer (check false number rest) = refused number
 answer (give a) = accepted a
 
--- The first test of the order that fails has this number.
+-- The first test of the order that fails has this number. In `check true 14 (check false 11 rest)`
+-- the test of 14 holds, so `later`, and the test of 11 fails, `here`: `First 11` of it is `later here`.
 pub data First {A : Type 0} (number : ℕ) : Order A → Type 0 where
   here : {rest : Order A} → First number (check false number rest)
   later : {earlier : ℕ} {rest : Order A} → First number rest

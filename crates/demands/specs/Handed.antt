@@ -37,7 +37,8 @@ handsOn itsSession h (refused number) = h
 abbrev pub deliveryAnswer : World → Handed → List ℕ → Answer (Made Delivery)
 deliveryAnswer world h bytes = answer (deliverOrder (sessionIn h) (lentIn world h) bytes)
 
--- What a call hands on.
+-- What a call hands on, given h: of a reading the session is the answer itself, of a delivery the
+-- session in it.
 unfoldable pub next : World → Handed → Call → Handed
 next world h (reading t) =
     handsOn (λ session. session) h (answer (readingOrder (sessionIn h) (lentIn world h) t))
