@@ -16,23 +16,26 @@ use Rattle.basis.specs.Order.{Answer, refused, accepted, Order, check, give, an
 use Rattle.basis.proofs.Tests.{never, says-eq, says-two, says-three}
 use Rattle.record.specs.Bytes.{recordOf, bytesOf, wellFormed, readOrder, writeOrder, limitsOrder}
 use Rattle.record.specs.Log.{recordsOf, soundLog}
-use Rattle.record.specs.Statements.{Formed}
+use Rattle.record.specs.Facts.{Formed, LogValid}
+use Rattle.record.proofs.Rules.{log-valid}
 use Rattle.record.specs.declared.bytes.Record.{Record}
 use Rattle.basis.specs.LittleEndian.{Bytes}
 use Rattle.record.specs.Held.{leverAt}
 use Rattle.record.specs.Place.{byLever, rowServes}
 use Rattle.record.proofs.Buffers.{held-climbs}
 use Rattle.record.proofs.Members.{held-lever, lever-held}
-use Rattle.fleet.specs.State.{soundState, carrier}
+use Rattle.fleet.specs.State.{soundState}
 use Rattle.session.specs.Lent.{Lent, Made, Filled, filled, heldIn, worldIn}
 use Rattle.session.specs.declared.Session.{Session}
-use Rattle.demands.specs.Facts.{LogValid, Valid, Sound, HeldHere, NoneHere, RowSound, CarrierSound}
-use Rattle.demands.proofs.Facts.{log-valid, in-range, rooms, long, starts-at, sound-means}
-use Rattle.demands.proofs.Facts.{state-sound}
-use Rattle.clock.specs.Reading.{givenBy, readingOrder as clockOrder}
+use Rattle.clock.specs.Reading.{givenBy, clockOrder}
 use Rattle.yard.specs.declared.world.Yard.{Yard}
 use Rattle.yard.specs.Rule9.{rangesHold, cellsHold, sizesHold, startsHold}
-use Rattle.yard.proofs.Fits.{cells as cells-iff, sizes as sizes-iff}
+use Rattle.yard.specs.Facts.{Valid}
+use Rattle.yard.proofs.Fits.{ranges, cells as cells-iff, sizes as sizes-iff, starts}
+use Rattle.fleet.specs.Facts.{StateSound}
+use Rattle.fleet.proofs.Carriers.{state-sound}
+use Rattle.session.specs.Facts.{Sound, HeldHere, NoneHere, RowSound}
+use Rattle.session.proofs.Facts.{lengths-fit, room-fits, sound-means}
 use Rattle.session.specs.Calls.{worldOrder, openOrder, readingOrder, deliverOrder, replayOrder}
 use Rattle.session.specs.Calls.{digestOrder, shownOrder, opened, readOn, Delivery, takeIn, unchanged, foundIn}
 use Rattle.session.specs.Calls.{placeOrder, rowIn, previous}
@@ -125,7 +128,7 @@ valid : (yard : Yard) (cells : List ℕ) (boxes : List ℤ)
     ↔ Valid yard cells boxes
 valid yard cells boxes =
     Iff·trans
-    (says-two (cells-iff cells) (says-two (sizes-iff yard boxes) (starts-at yard cells boxes))) (
+    (says-two (cells-iff cells) (says-two (sizes-iff yard boxes) (starts yard cells boxes))) (
       λ h. record { bytes = h .0; sizes = h .1 .0; starts = h .1 .1 },
       λ v. (v .bytes, (v .sizes, v .starts)),
     )
@@ -170,7 +173,7 @@ module _ (s : Session) (l : Lent) (r : Record) (are : Bytes (l .log)) (sound : S
       )
     where
       row : (soundState (worldIn s l) (rowIn s l (r .step)) ≡ true) ↔ RowSound s l (r .step)
-      row = state-sound (s .yard) (l .cells) (l .boxes) (rowIn s l (r .step))
+      row = state-sound (worldIn s l) (rowIn s l (r .step))
 
   abbrev rest : Table
   rest =
@@ -218,10 +221,8 @@ row-before : (s : Session) (l : Lent) → Sound s l
     ↔ ((0 < s .clock .steps) × (RowSound s l (s .clock .steps - 1) → ⊥))
 row-before s l sound = go (eqb (s .clock .steps) 0) refl
   where
-    row : (state : List ℤ) → (soundState (worldIn s l) state ≡ true)
-        ↔ ((i : ℕ) → i < s .yard .b
-        → CarrierSound (s .yard) (l .cells) (l .boxes) i (carrier i state))
-    row = state-sound (s .yard) (l .cells) (l .boxes)
+    row : (state : List ℤ) → (soundState (worldIn s l) state ≡ true) ↔ StateSound (worldIn s l) state
+    row = state-sound (worldIn s l)
 
     go : (t : Bool) → eqb (s .clock .steps) 0 ≡ t
         → (soundState (worldIn s l) (cond t (l .state) (rowIn s l (s .clock .steps - 1))) ≡ false)
@@ -239,10 +240,10 @@ pub open-by : (yard : Yard) (t : ℕ) (l : Lent) (words : List ℕ)
     → By 2 all-done (λ m. m ≡ opened yard t l) (openFace yard t l words) (openNumbers yard l words)
 unfolding openFace openOrder worldOrder andThen
 open-by yard t l words =
-    rung (lit≤ tt) (lit≤ tt) (else-fact _ (in-range yard)) λ ranges.
+    rung (lit≤ tt) (lit≤ tt) (else-fact _ (ranges yard)) λ fit.
     rung (lit≤ tt) (lit≤ tt) (else-eq _ _) λ _.
-    passed ranges
-    (rung (lit≤ tt) (lit≤ tt) (else-fact _ (rooms yard l)) λ _.
+    passed fit
+    (rung (lit≤ tt) (lit≤ tt) (else-fact _ (room-fits yard l)) λ _.
     like (joined (cellsHold (l .cells)) (sizesHold yard (l .boxes)) _ _ _)
     (rung (lit≤ tt) (lit≤ tt) (else-fact _ (valid yard (l .cells) (l .boxes))) λ _.
     end refl refl))
@@ -285,8 +286,8 @@ exactlyWhen =
           delivered-by l words out bytes says (deliver-by bytes l words are);
       replay = λ yard steps cells boxes state log out says.
           filled-by state out _ says
-          (rung (lit≤ tt) (lit≤ tt) (else-fact _ (in-range yard)) λ _.
-          rung (lit≤ tt) (lit≤ tt) (else-fact _ (long yard cells boxes state)) λ _.
+          (rung (lit≤ tt) (lit≤ tt) (else-fact _ (ranges yard)) λ _.
+          rung (lit≤ tt) (lit≤ tt) (else-fact _ (lengths-fit yard cells boxes state)) λ _.
           like (joined (cellsHold cells) (sizesHold yard boxes) _ _ _)
           (rung (lit≤ tt) (lit≤ tt) (else-fact _ (valid yard cells boxes)) λ _.
           rung (lit≤ tt) (lit≤ tt) (else-fact _ (log-valid (yard .b) log)) λ _.

@@ -9,7 +9,7 @@ use lib.Dec.{leb, ltb, eqb}
 use Rattle.basis.specs.Order.{Answer, refused, accepted, Order, check, give, answer}
 use Rattle.basis.proofs.Order.{passes, fails, gives, given, apart}
 use Rattle.basis.proofs.Tests.{never, says-le, says-lt, says-eq}
-use Rattle.demands.proofs.Ladder.{not-so}
+use Rattle.basis.proofs.Ladder.{not-so}
 use Rattle.face.specs.Table.{Table, _when_or_, done, Gives, Answers}
 
 -- Where a test fails, from what it says.
