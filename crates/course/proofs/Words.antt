@@ -1,11 +1,11 @@
 -- Laws of rows laid end to end: a row where it lies, a row stored, rows of zeros, and back.
 use Prim.Native.Nat.{ℕ, zero, suc, _+_, _*_, _%_, _<_}
-use mathlib.Core.Path.{_≡_, refl, sym, subst, _∙_}
-use mathlib.Core.List.{List, [], _∷_, _++_, append-assoc, flatten}
+use mathlib.Core.Path.{_≡_, sym, subst, _∙_}
+use mathlib.Core.List.{List, _++_, append-assoc, flatten}
 use native.Mathlib.Nat.{zero-mul, zero-add, not-suc-le-zero, le-of-eq}
 use native.Mathlib.Omega.{arith}
-use lib.ListN.{length, take, drop, getD, set, replicate, length-append, length-drop, length-set}
-use lib.ListN.{length-replicate, take-append-drop, replicate-append-replicate}
+use lib.ListN.{length, take, drop, getD, set, replicate, length-append, length-set}
+use lib.ListN.{length-replicate, replicate-append-replicate}
 use lib.Seq.{paste, take-at, drop-at, take-all, take-append-add, drop-append-add}
 use Rattle.basis.specs.Numbers.{rowCount}
 use Rattle.record.specs.declared.bytes.Record.{Record}

@@ -2,7 +2,6 @@
 use Prim.Native.Nat.{ℕ, _+_, _<_, _≤_}
 use mathlib.Core.Path.{_≡_, refl, sym, _∙_}
 use mathlib.Core.Logic.{_↔_, Iff·trans}
-use native.Mathlib.Omega.{arith}
 use lib.Dec.{leb}
 use Rattle.basis.specs.Numbers.{FAULT, BACKWARD, END, mostSteps, stepLength}
 use Rattle.basis.specs.Order.{Answer, refused, accepted, Order, check, give, answer, andThen}
@@ -15,7 +14,6 @@ use Rattle.clock.proofs.Readings.{equal-reading}
 use Rattle.fleet.specs.Run.{runSaving}
 use Rattle.session.specs.declared.Session.{Session}
 use Rattle.session.specs.declared.Running.{Running}
-use Rattle.session.specs.declared.Running.the-variants as running
 use Rattle.session.specs.Lent.{Lent, Made, tells, leaves, asBefore}
 use Rattle.session.specs.Sound.{sound}
 use Rattle.session.specs.Calls.{readOn, readingOrder}
