@@ -112,7 +112,8 @@ module _ (session : Session) (t : ℕ) (l : Lent) (out : Made Running)
         backward = Iff·trans (by _ (refused 11) refl) (is-backward session t l);
         end = Iff·trans (by _ (refused 12) refl) (is-end session t l);
         read = Iff·trans (by _ (accepted (new session t l)) refl)
-            (Iff·trans (is-read session t l _) (λ (s, h, k, e). (s, h, k), λ (s, h, k). (s, h, k, refl)));
+            (Iff·trans (is-read session t l _)
+            (λ (s, h, k, e). (s, h, k), λ (s, h, k). (s, h, k, refl)));
         equal = λ s e. by _ (accepted (asBefore session l)) refl .1
             (rw e (equal-given session l s));
       }

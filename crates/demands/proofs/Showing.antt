@@ -156,5 +156,6 @@ module _ (session : Session) (l : Lent) where
           fault = Iff·trans (by (shown.Refused 14)) shown-fault;
           carrier = Iff·trans (by (shown.Refused 3)) shown-carrier;
           place = Iff·trans (by (shown.At at))
-              (Iff·trans (shown-given at) (λ (s, h, f, e). (s, h, f), λ (s, h, f). (s, h, f, refl)));
+              (Iff·trans (shown-given at)
+              (λ (s, h, f, e). (s, h, f), λ (s, h, f). (s, h, f, refl)));
         }
