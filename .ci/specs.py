@@ -2,7 +2,7 @@
 of the public entries, and what each of them names.
 
 A public entry is a function that its crate's lib.rt gives out and that has no `requires`; of a crate with C functions,
-each of those.
+each of those. A crate that stands on the kit's io is a program's, and gives out none.
 """
 import os
 import re
@@ -99,7 +99,7 @@ class Tree:
         self.below = {}
         for name, below in re.findall(r"^(\w+):(.*)$", read("crates.txt"), re.M):
             self.below[name] = below.split()
-        self.items = [item for crate in self.below for item in self.crate(crate)]
+        self.items = [item for crate in sorted(self.below, key=self.floor) for item in self.crate(crate)]
         self.at = {(item.path, item.name): item for item in self.items}
         for item in self.items:
             if item.lines[0].startswith("pub data"):
@@ -113,11 +113,15 @@ class Tree:
             item.aliases = {word: other for word, other in known.items()
                             if other.kind == DEFINITION and word not in (other.name, *other.parts())}
 
+    def floor(self, crate):
+        """How many crates stand below one another under this one."""
+        return max((1 + self.floor(below) for below in self.below.get(crate, [])), default=0)
+
     def crate(self, crate):
         """A crate's types, then its definitions, then the heads of its entries; of a program the definitions alone."""
         source = files(f"crates/{crate}/src", ".rt", "lib.rt", r"^(?:pub )?mod (\w+);")
         specs = files(f"crates/{crate}/specs", ".antt", "Lib.antt", r"^pub mod (\w+)")
-        lib = read(f"crates/{crate}/src/lib.rt")
+        lib = "" if "io" in self.below[crate] else read(f"crates/{crate}/src/lib.rt")
         foreign = any("pub extern " in read(path) for path in source)
         found = [item for path in source for item in types(crate, path)] if lib else []
         found += [item for path in specs for item in definitions(crate, path)]
