@@ -1,5 +1,4 @@
-//! Finds the library (feature `library`), and writes the planted copies of the model (feature
-//! `plants`).
+//! Writes the planted copies of the model (feature `plants`).
 
 use std::env;
 use std::fs;
@@ -8,25 +7,9 @@ use std::path::{Path, PathBuf};
 fn main() {
     let home = PathBuf::from(env::var("CARGO_MANIFEST_DIR").unwrap());
     println!("cargo:rerun-if-changed=build.rs");
-    if env::var("CARGO_FEATURE_LIBRARY").is_ok() {
-        link_library(&home);
-    }
     if env::var("CARGO_FEATURE_PLANTS").is_ok() {
         write_plants(&home, Path::new(&env::var("OUT_DIR").unwrap()));
     }
-}
-
-fn link_library(home: &Path) {
-    println!("cargo:rerun-if-env-changed=WUTHRACOMB_LIB_DIR");
-    let given = env::var("WUTHRACOMB_LIB_DIR").map(PathBuf::from);
-    let folder = given.unwrap_or_else(|_| home.join("../target/staticlib"));
-    let library = folder.join("libstation.a");
-    if !library.exists() {
-        println!("cargo:warning={} is missing; see README.md", library.display());
-    }
-    println!("cargo:rerun-if-changed={}", library.display());
-    println!("cargo:rustc-link-search=native={}", folder.display());
-    println!("cargo:rustc-link-lib=static=station");
 }
 
 /// A copy of the model for each file of plants/, and the list of them.

@@ -17,3 +17,4 @@ mod world;
 mod yard;
 
 pub use calls::Model;
+pub use digest::fnv1a;
