@@ -3,4 +3,6 @@ pub mod Tests
 pub mod Order
 pub mod LittleEndian
 pub mod Lists
+pub mod Signed
+pub mod Ring
 pub mod Statements

@@ -41,6 +41,10 @@ unfoldable pub andThen : {A B : Type 0} → Order A → (A → Order B) → Orde
 andThen (check test number rest) next = check test number (andThen rest next)
 andThen (give a) next = next a
 
+-- 'any two outcomes allowed by it coincide', of a contract.
+abbrev pub Determines : {O : Type 0} → (O → Type 0) → Type 0
+Determines {O} says = (a b : O) → says a → says b → a ≡ b
+
 -- 'any two outcomes allowed by it coincide', of a contract by which what an outcome says is this.
 abbrev pub OneOutcome : {O C : Type 0} → (O → C) → C → Type 0
 OneOutcome {O} says this = (a b : O) → says a ≡ this → says b ≡ this → a ≡ b
