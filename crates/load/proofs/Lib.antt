@@ -1,0 +1,2 @@
+-- Laws of the hanging load.
+pub mod Steps
