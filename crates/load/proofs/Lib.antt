@@ -1,2 +1,4 @@
 -- Laws of the hanging load.
 pub mod Steps
+pub mod Rounding
+pub mod Energy

@@ -13,7 +13,7 @@ use mir.Syntax.{w32}
 use mir.Val.{SFits}
 use Rattle.basis.specs.Numbers.{LOAD}
 use Rattle.basis.specs.Order.{answer, refused, accepted}
-use Rattle.basis.proofs.Order.{passes, fails, gives}
+use Rattle.basis.proofs.Order.{passes, fails, gives, held, given}
 use Rattle.basis.proofs.Tests.{never, not-left, not-right, says-le, says-two}
 use Rattle.basis.proofs.Signed.{small, abs-add, abs-sub, abs-mul}
 use Rattle.load.specs.Step.{within, inRange, isStiffness, quotient, speedAfter, moved}
@@ -69,6 +69,22 @@ module _ (p : ℕ) (load : Load) where
           → answer (stepOrder p load) ≡ accepted (moved p load)
       unfolding stepOrder
       moves e = passes _ _ good ∙ passes _ _ range ∙ passes _ _ e ∙ gives _
+
+-- What an unrefused step says.
+pub record Accepted (p : ℕ) (load after : Load) : Type 0 where
+  pub stiffness : isStiffness p ≡ true
+  pub state : inRange load ≡ true
+  pub step : inRange (moved p load) ≡ true
+  pub after-is : moved p load ≡ after
+
+pub accepts : (p : ℕ) (load after : Load) → answer (stepOrder p load) ≡ accepted after
+    → Accepted p load after
+unfolding stepOrder
+accepts p load after e =
+    let (stiffness, e1) = held _ _ _ e in
+    let (state, e2) = held _ _ _ e1 in
+    let (step, e3) = held _ _ _ e2 in
+    record { stiffness = stiffness; state = state; step = step; after-is = given _ e3 }
 
 -- A quotient rounded down is no farther from 0 than one more than the dividend's size by D.
 shrunk : (z : ℤ) → natAbs (shrZ z 1024) ≤ natAbs z / 1024 + 1
