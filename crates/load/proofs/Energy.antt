@@ -122,7 +122,7 @@ run-drift {p} {m} {first = first} {last = last} (then {n = n} {before = k} run s
     let one : natAbs (energy p last -ℤ energy p k) ≤ 1024 * (2 * m + 1) =
     subst
     (λ (l : Load). natAbs (l .x) ≤ m → natAbs (l .v) ≤ m
-        → natAbs (energy p l -ℤ energy p k) ≤ 1024 * (2 * m + 1))
+    → natAbs (energy p l -ℤ energy p k) ≤ 1024 * (2 * m + 1))
     (a .after-is) (step-drift p m k (says-stiffness p .0 (a .stiffness) .1)) near slow in
     rw (between (energy p last) (energy p k) (energy p first))
     (omega (

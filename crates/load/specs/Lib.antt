@@ -7,4 +7,5 @@
 pub mod Step
 pub mod Says
 pub mod Energy
+pub mod Examples
 pub mod Statements

@@ -47,6 +47,6 @@ stepOrder p load =
     (give (moved p load))))
 
 -- The load or the number that each case of the code's answer stands for.
-abbrev pub answerOf : Stepped → Answer Load
-answerOf (Moved load) = accepted load
-answerOf (Refused number) = refused number
+abbrev pub loadAnswer : Stepped → Answer Load
+loadAnswer (Moved load) = accepted load
+loadAnswer (Refused number) = refused number
