@@ -12,6 +12,7 @@ examples =
     record {
       above = record { step = refl; rest = refl; first = refl; then = refl };
       below = record { step = refl; rest = refl; first = refl; then = refl };
+      most = record { step = refl; rest = refl; first = refl; then = refl };
       brink = refl;
       soft = refl;
       stiff = refl;

@@ -27,6 +27,10 @@ pub record Examples : Type 0 where
   -- -100·500 is 1,024·(-49) + 176, rounded down and not toward 0: v' = 7 + 49, x' = -500 + 56.
   pub below : Worked 100 (loadAt (negℤ (pos 500)) (pos 7)) (loadAt (negℤ (pos 444)) (pos 56))
       (pos 176) (pos 25400176) (pos 25411264)
+  -- A step that ended within 10 changes the energy by 1,004·(9 + 10): above 1,024·10, and not above
+  -- 1,024·21.
+  pub most : Worked 1 (loadAt (negℤ (pos 20)) (pos 9)) (loadAt (negℤ (pos 10)) (pos 10))
+      (pos 1004) (pos 83524) (pos 102600)
   -- Offset and speed may reach 32,767.
   pub brink : StepSays (loadAt (pos 0) (pos 32767)) 1 (Moved (loadAt (pos 32767) (pos 32767)))
   -- 'A stiffness .. out of range'

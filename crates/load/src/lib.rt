@@ -47,8 +47,8 @@ impl Load {
         ensures moved { λ r. ⌜ r ≡ moved stiffness self ⌝ }
     {
         let x = self.x;
-        let pull = (stiffness as i32 * x) >> Load::SHIFT;
-        let v = self.v - pull;
+        let speed = self.v;
+        let v = speed - ((stiffness as i32 * x) >> Load::SHIFT);
         Load { x: x + v, v }
     }
 

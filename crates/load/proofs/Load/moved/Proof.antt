@@ -1,10 +1,11 @@
--- `Load::moved` meets its contract.
+-- `Load::moved` meets its contract: what the machine reads back is what was given, and every word in
+-- between fits.
 use borrow.Author.Needs.{needs}
-use mathlib.Core.Path.{_≡_, refl}
+use mathlib.Core.Path.{_≡_}
 use native.Mathlib.Omega.{arith}
-use lib.IntN.{pos}
+use lib.IntN.{pos, _+ℤ_, _*ℤ_}
 use mir.Syntax.{w32}
-use mir.Val.{toZ}
+use mir.Val.{SFits, toZ}
 use mir.Facts.{toZ-ofZ, toZ-pos}
 use Rattle.basis.proofs.Signed.{read, got}
 use Rattle.load.specs.Step.{quotient, speedAfter, moved}
@@ -12,59 +13,67 @@ use Rattle.load.proofs.Steps.{product-fits, quotient-fits, speed-fits, 
 use Rattle.load.proofs.Load.moved.Statement.{statement}
 use Rattle.load.proofs.Load.moved.Tie as tie
 
--- The words given, as the machine reads them back.
-p-is : (c : tie.Start) → toZ w32 (c .args .stiffness) ≡ pos (c .args .stiffness)
-p-is c = toZ-pos w32 (omega (arith, c .pre .0))
+abbrev start : tie.After-struct-told2 → tie.Start
+start c = c .before .before
 
-mul-pull : tie.Need-mul-pull
-mul-pull c =
-    let s = c .before in
-    let a = s .args in
-    simp (p-is s, got (a .self .x) (search needs))
-    (product-fits (a .stiffness) (a .self) (s .pre .0) (s .pre .1))
+p-is : (c : tie.After-struct-told2)
+    → toZ w32 (start c .args .stiffness) ≡ pos (start c .args .stiffness)
+p-is c = toZ-pos w32 (omega (arith, start c .pre .0))
+
+x-is : (c : tie.After-struct-told2) → read (start c .args .self .x) ≡ start c .args .self .x
+x-is c = got (start c .args .self .x) (search needs)
+
+v-is : (c : tie.After-struct-told2) → read (start c .args .self .v) ≡ start c .args .self .v
+v-is c = got (start c .args .self .v) (search needs)
+
+product : (c : tie.After-struct-told2)
+    → SFits w32 (pos (start c .args .stiffness) *ℤ start c .args .self .x)
+product c = product-fits _ _ (start c .pre .0) (start c .pre .1)
+
+pull : (c : tie.After-struct-told2)
+    → SFits w32 (quotient (start c .args .stiffness) (start c .args .self .x))
+pull c = quotient-fits _ (start c .args .self) (start c .pre .0) (start c .pre .1)
+
+speed : (c : tie.After-struct-told2)
+    → SFits w32 (speedAfter (start c .args .stiffness) (start c .args .self))
+speed c = speed-fits _ _ (start c .pre .0) (start c .pre .1)
+
+place : (c : tie.After-struct-told2)
+    → SFits w32
+    (start c .args .self .x +ℤ speedAfter (start c .args .stiffness) (start c .args .self))
+place c = place-fits _ _ (start c .pre .0) (start c .pre .1)
+
+mul-v : tie.Need-mul-v
+mul-v c = simp (p-is c, x-is c) (product c)
 
 sub-v : tie.Need-sub-v
 unfolding quotient speedAfter
-sub-v c =
-    let s = c .before .before .before in
-    let a = s .args in
-    simp (
-      p-is s,
-      got (a .self .x) (search needs),
-      got (a .self .v) (search needs),
-      toZ-ofZ (product-fits (a .stiffness) (a .self) (s .pre .0) (s .pre .1)),
-      toZ-ofZ (quotient-fits (a .stiffness) (a .self) (s .pre .0) (s .pre .1)),
-    )
-    (speed-fits (a .stiffness) (a .self) (s .pre .0) (s .pre .1))
+sub-v c = simp (p-is c, x-is c, v-is c, toZ-ofZ (product c), toZ-ofZ (pull c)) (speed c)
 
 add-t6 : tie.Need-add-t6
 unfolding quotient speedAfter
 add-t6 c =
-    let s = c .before .before .before in
-    let a = s .args in
     simp (
-      p-is s,
-      got (a .self .x) (search needs),
-      got (a .self .v) (search needs),
-      toZ-ofZ (product-fits (a .stiffness) (a .self) (s .pre .0) (s .pre .1)),
-      toZ-ofZ (quotient-fits (a .stiffness) (a .self) (s .pre .0) (s .pre .1)),
-      toZ-ofZ (speed-fits (a .stiffness) (a .self) (s .pre .0) (s .pre .1)),
+      p-is c,
+      x-is c,
+      v-is c,
+      toZ-ofZ (product c),
+      toZ-ofZ (pull c),
+      toZ-ofZ (speed c),
     )
-    (place-fits (a .stiffness) (a .self) (s .pre .0) (s .pre .1))
+    (place c)
 
 returns : tie.Need-returns
 unfolding quotient speedAfter moved
 returns c =
-    let s = c .before .before .before in
-    let a = s .args in
     simp (
-      p-is s,
-      got (a .self .x) (search needs),
-      got (a .self .v) (search needs),
-      toZ-ofZ (product-fits (a .stiffness) (a .self) (s .pre .0) (s .pre .1)),
-      toZ-ofZ (quotient-fits (a .stiffness) (a .self) (s .pre .0) (s .pre .1)),
-      toZ-ofZ (speed-fits (a .stiffness) (a .self) (s .pre .0) (s .pre .1)),
-      toZ-ofZ (place-fits (a .stiffness) (a .self) (s .pre .0) (s .pre .1)),
+      p-is c,
+      x-is c,
+      v-is c,
+      toZ-ofZ (product c),
+      toZ-ofZ (pull c),
+      toZ-ofZ (speed c),
+      toZ-ofZ (place c),
     )
 
 pub moved-spec : {M : Type 1} → statement M
@@ -72,7 +81,7 @@ moved-spec =
     tie.close
     (tie.spec
     (λ c. search needs)
-    mul-pull
+    mul-v
     (λ c. search needs)
     (λ c. search needs)
     sub-v
