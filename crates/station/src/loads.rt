@@ -25,8 +25,10 @@ pub extern "C" fn wuthracomb_load_step(stiffness: u32, load: &mut [i32]) -> u32
     match before.step(stiffness) {
         Stepped::Refused(number) => wide(number),
         Stepped::Moved(after) => {
-            load[0] = after.x;
-            load[1] = after.v;
+            let x = after.x;
+            let v = after.v;
+            load[0] = x;
+            load[1] = v;
             Face::DONE
         }
     }
