@@ -1,12 +1,12 @@
 -- What is claimed of the hanging load. proofs/Statements.antt proves each record whole.
--- `natAbs z` is z without its sign.
-use Prim.Native.Nat.{ℕ, _+_, _*_, _<_, _≤_}
+use Prim.Native.Nat.{ℕ, _+_, _*_}
 use mathlib.Core.Path.{_≡_}
-use mathlib.Core.Logic.{_↔_, _⊎_}
-use lib.IntN.{ℤ, pos, natAbs, _+ℤ_, _-ℤ_, _*ℤ_}
+use mathlib.Core.Logic.{_↔_}
+use lib.IntN.{ℤ, pos, _+ℤ_, _-ℤ_, _*ℤ_}
 use lib.Signed.{_≤ℤ_, _<ℤ_}
 use Rattle.basis.specs.Order.{Determines}
-use Rattle.load.specs.Step.{D, quotient}
+use Rattle.load.specs.Facts.{OutOfRange}
+use Rattle.load.specs.Step.{D, quotient, moved}
 use Rattle.load.specs.Says.{StepSays}
 use Rattle.load.specs.Energy.{energy, remainder, Run}
 use Rattle.load.specs.declared.Load.{Load}
@@ -28,19 +28,13 @@ pub record RoundedDown (p : ℕ) (x : ℤ) : Type 0 where
       → q ≡ quotient p x
   pub remainder : (pos 0 ≤ℤ remainder p x) × (remainder p x ≤ℤ pos 1023)
 
--- A load with a stiffness, and where one step takes it: to x' and v'.
-pub record StepNumbers (load : Load) (p : ℕ) (x' v' : ℤ) (out : Stepped) : Type 0 where
+-- A step, number by number.
+pub record StepNumbers (load : Load) (p : ℕ) (out : Stepped) : Type 0 where
   -- 17: 'A stiffness or state out of range, or a step that would leave the range'
-  pub refused : (out ≡ Refused 17)
-      ↔ ((p < 1) ⊎ (1024 < p)
-      ⊎ (32767 < natAbs (load .x)) ⊎ (32767 < natAbs (load .v))
-      ⊎ (32767 < natAbs x') ⊎ (32767 < natAbs v'))
-  -- Moved: none of these, and to x' and v'.
+  pub refused : (out ≡ Refused 17) ↔ OutOfRange p load (moved p load)
+  -- Else it is moved by the step.
   pub moved : (after : Load) → (out ≡ Moved after)
-      ↔ ((1 ≤ p) × (p ≤ 1024)
-      × (natAbs (load .x) ≤ 32767) × (natAbs (load .v) ≤ 32767)
-      × (natAbs x' ≤ 32767) × (natAbs v' ≤ 32767)
-      × (after .x ≡ x') × (after .v ≡ v'))
+      ↔ ((OutOfRange p load (moved p load) → ⊥) × (after ≡ moved p load))
   -- No number but 17 refuses.
   pub only : (n : ℕ) → out ≡ Refused n → n ≡ 17
 
@@ -63,10 +57,12 @@ pub record Drift (p m n : ℕ) (first last : Load) : Type 0 where
 -- Document 02, §7, of whatever the contract allows.
 pub record HangingLoad : Type 0 where
   pub rounded : (p : ℕ) (x : ℤ) → RoundedDown p x
-  -- 'one step is v' = v minus p·x/D rounded down, then x' = x + v''
+  -- 'one step is v' = v minus p·x/D rounded down,
+  pub speed : (p : ℕ) (load : Load) → moved p load .v ≡ load .v -ℤ quotient p (load .x)
+  -- then x' = x + v''
+  pub offset : (p : ℕ) (load : Load) → moved p load .x ≡ load .x +ℤ moved p load .v
   pub numbers : (load : Load) (p : ℕ) (out : Stepped) → StepSays load p out
-      → let v' : ℤ = load .v -ℤ quotient p (load .x) in
-      StepNumbers load p (load .x +ℤ v') v' out
+      → StepNumbers load p out
   pub change : (before : Load) (p : ℕ) (after : Load) → StepSays before p (Moved after)
       → Change p before after
   pub drift : (p m n : ℕ) (first last : Load) → Run p m n first last → Drift p m n first last

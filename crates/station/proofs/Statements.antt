@@ -26,7 +26,8 @@ use Rattle.station.specs.Words.{sessionWords, sessionOf, nine}
 use Rattle.station.specs.Face.{openFace, readingFace, deliverFace, shows, digestFace}
 use Rattle.station.specs.Face.{shownFace, stepRecordsFace, loadOf, loadStepFace}
 use Rattle.station.specs.Statements.{NineWords, Determined, Refusals}
-use Rattle.station.specs.Statements.{Lengths, Thin}
+use Rattle.station.specs.Statements.{Lengths, Thin, LoadFace}
+use Rattle.station.proofs.Loading.{load-numbers}
 use Rattle.station.proofs.OneRecord.{read-no-room, not-eight}
 use Rattle.station.proofs.Showing.{wrong-out, shows-order}
 
@@ -213,3 +214,6 @@ nineWords =
       words = session-back;
       whole = λ words l. bad-ranges (sessionOf words) l;
     }
+
+pub loadFace : LoadFace
+loadFace = record { numbers = load-numbers }
