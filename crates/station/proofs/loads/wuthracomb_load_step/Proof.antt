@@ -55,7 +55,7 @@ returns-3 c =
     let f = n .before .before in
     let after = n .after .given .0 .0 in
     let words = now (start f .args .load) in
-    rw (got (after .x) (search needs), got (after .v) (search needs))
+    simp (got (after .x) (search needs), got (after .v) (search needs))
     (ap (filled DONE) (stores words (after .x ∷ after .v ∷ []) (two f))
     ∙ sym
     (ap (fills words)
