@@ -1,7 +1,6 @@
 -- The change of energy in a step, exactly, and over n steps, at most.
-use Prim.Native.Nat.{ℕ, zero, suc, _+_, _-_, _*_, _≤_}
+use Prim.Native.Nat.{ℕ, _+_, _-_, _*_, _≤_}
 use mathlib.Core.Path.{_≡_, refl, sym, ap, subst, _∙_}
-use mathlib.Core.Bool.{true}
 use mathlib.Core.List.{[], _∷_}
 use native.Mathlib.Nat.{mul-le-mul, add-mul, suc-mul, mul-assoc}
 use native.Mathlib.Omega.{arith}
@@ -14,7 +13,7 @@ use Rattle.load.specs.Energy.{energy, remainder, Run, none, then}
 use Rattle.load.specs.Statements.{Change, Drift}
 use Rattle.load.specs.declared.Load.{Load}
 use Rattle.load.specs.declared.Stepped.the-variants.{Moved}
-use Rattle.load.proofs.Steps.{says-stiffness, Accepted, accepts}
+use Rattle.load.proofs.Steps.{says-stiffness, accepts}
 use Rattle.load.proofs.Rounding.{remains}
 
 -- Both equations, of D, p, x, v and q.

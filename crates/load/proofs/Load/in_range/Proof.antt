@@ -1,6 +1,6 @@
 -- `Load::in_range` meets its contract.
 use borrow.Author.Needs.{needs}
-use mathlib.Core.Path.{_≡_, sym, ap, _∙_}
+use mathlib.Core.Path.{sym, ap, _∙_}
 use Rattle.basis.proofs.Signed.{got}
 use Rattle.load.specs.Step.{within, inRange}
 use Rattle.load.proofs.Load.in_range.Statement.{statement}

@@ -1,7 +1,6 @@
 -- `Load::step` meets its contract.
 use borrow.Author.Needs.{needs}
 use borrow.Author.Tests.{ltb-true}
-use native.Mathlib.Omega.{arith}
 use mathlib.Core.Path.{_≡_, sym, ap, _∙_}
 use mathlib.Core.Bool.{true}
 use mathlib.Core.Logic.{⊎-elim}
