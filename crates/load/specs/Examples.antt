@@ -36,7 +36,7 @@ pub record Examples : Type 0 where
   -- 'A stiffness .. out of range'
   pub soft : StepSays (loadAt (pos 1) (pos 1)) 0 (Refused 17)
   pub stiff : StepSays (loadAt (pos 1) (pos 1)) 1025 (Refused 17)
-  -- 'or state out of range', though the step would come back into it.
+  -- 'or state out of range': by x, though the step would come back into the range; and by v.
   pub far : StepSays (loadAt (pos 32768) (negℤ (pos 1))) 1 (Refused 17)
   pub fast : StepSays (loadAt (negℤ (pos 1)) (negℤ (pos 32768))) 1024 (Refused 17)
   -- 'or a step that would leave the range': by x' = 32,768 alone, and by v' = -65,534 alone.
