@@ -1,5 +1,7 @@
 -- The functions of the C face: the orders of documents 01 and 02, and the lengths that the face adds
--- to them.
+-- to them. Each is read as an order of `session` or `record` is, from the top down: `readingFace` is
+-- 14 for a session that isn't nine words, and then 14, 11, 12 of the session in them. `words` is the
+-- lent session, `out` a lent slice for what is given.
 use Prim.Native.Nat.{ℕ, _+_}
 use mathlib.Core.Bool.{cond}
 use mathlib.Core.List.{List, [], _∷_}
@@ -56,9 +58,9 @@ loadOf words = record { x = getD words 0 (pos 0); v = getD words 1 (pos 0) }
 
 -- `wuthracomb_load_step`: the load after the step, into the same two words.
 unfoldable pub loadStepFace : ℕ → List ℤ → Order (List ℤ)
-loadStepFace stiffness words =
-    check (eqb (length words) 2) ROOM
-    (andThen (stepOrder stiffness (loadOf words))
+loadStepFace stiffness load =
+    check (eqb (length load) 2) ROOM
+    (andThen (stepOrder stiffness (loadOf load))
     (λ after. give (after .x ∷ after .v ∷ [])))
 
 -- `wuthracomb_open`: the session's length among the other lengths; the ranges stand before both.
