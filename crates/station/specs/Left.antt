@@ -18,7 +18,8 @@ DONE = 255
 abbrev pub fills : {A : Type 0} → List A → Answer (List A) → Filled ℕ A
 fills = fill DONE (λ number. number)
 
--- A call that may change the state, the rows, the log and the session.
+-- A call that may change the state, the rows, the log and the session: what it answers, and how it
+-- leaves them.
 pub record Left : Type 0 where
   pub number : ℕ
   pub state : List ℤ
