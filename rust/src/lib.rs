@@ -75,6 +75,8 @@ pub const END: u32 = 12;
 pub const LOG: u32 = 13;
 /// What is handed back after opening isn't sound.
 pub const FAULT: u32 = 14;
+/// A hanging load's stiffness or words are out of range, or would be after the step.
+pub const LOAD: u32 = 17;
 /// An accepted call other than a delivery.
 pub const DONE: u32 = 255;
 
@@ -353,4 +355,16 @@ pub fn step_records(log: &[u8], step: u32, out: &mut [u64]) -> u32 {
     unsafe {
         raw::wuthracomb_step_records(log.as_ptr(), log.len(), step, out.as_mut_ptr(), out.len())
     }
+}
+
+/// Makes one step of a hanging load, whose offset is `load[0]` and whose speed is `load[1]`:
+/// [`DONE`], or [`ROOM`] where `load` isn't 2 long, [`LOAD`].
+///
+/// ```
+/// let mut load = [-300, 7];
+/// assert_eq!(wuthracomb::load_step(5, &mut load), wuthracomb::DONE);
+/// assert_eq!(load, [-291, 9]);
+/// ```
+pub fn load_step(stiffness: u32, load: &mut [i32]) -> u32 {
+    unsafe { raw::wuthracomb_load_step(stiffness, load.as_mut_ptr(), load.len()) }
 }

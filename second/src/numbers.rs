@@ -15,6 +15,8 @@ pub const BACKWARD: u32 = 11;
 pub const END: u32 = 12;
 pub const LOG: u32 = 13;
 pub const FAULT: u32 = 14;
+/// Of a hanging load (02 §7).
+pub const LOAD: u32 = 17;
 /// An accepted call other than a delivery.
 pub const DONE: u32 = 255;
 

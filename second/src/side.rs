@@ -190,6 +190,9 @@ impl<'s> Side<'s> {
             Act::StepRecords { log, step, out } => {
                 reading(log, |log| writing(*out, |out| station.step_records(log, *step, out)))
             }
+            Act::LoadStep { stiffness, load } => {
+                changing(load, |load| station.load_step(*stiffness, load))
+            }
             between => {
                 self.between(between);
                 return None;

@@ -9,6 +9,7 @@ mod calls;
 mod clock;
 mod digest;
 mod levers;
+mod load;
 mod log;
 mod record;
 mod session;
