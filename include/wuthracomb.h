@@ -1,8 +1,9 @@
 /* wuthracomb.h - the C face of Wuthracomb
 
    A yard of box-shaped carriers run in steps of 20,000 microseconds, a log of
-   lever records, late records by going back, and replay of a log.  Document 01
-   decides what every call does; this file says how C calls it.
+   lever records, late records by going back, and replay of a log; beside them
+   the hanging load of document 02.  Documents 01 and 02 decide what every call
+   does; this file says how C calls it.
 
    Every function ends for any numbers and any bytes, and keeps nothing between
    calls: all that lasts is in the slices that the caller lends.
@@ -22,9 +23,9 @@
      log      uint8_t         16384     the held records, then zeros
      session  uint64_t        9         see WUTHRACOMB_SESSION_W and on
 
-   Answers.  Every function returns a uint32_t: a number of document 01, or
-   WUTHRACOMB_DONE for an accepted call other than a delivery; only
-   wuthracomb_log_sound answers otherwise.  The numbers 2 to 14 are refusals.
+   Answers.  Every function returns a uint32_t: a number of document 01 or 02,
+   or WUTHRACOMB_DONE for an accepted call other than a delivery; only
+   wuthracomb_log_sound answers otherwise.  The numbers from 2 on are refusals.
    A refusal changes no byte and no word of any slice.  Below, "refusals, in
    order" means that the first that applies is given.
 
@@ -81,11 +82,15 @@ extern "C" {
 #define WUTHRACOMB_LATE       7u  /* record step + 64 is below the steps made */
 #define WUTHRACOMB_FULL       8u  /* 2,048 records are held */
 #define WUTHRACOMB_WORLD      9u  /* W, H or B, a cell, a size or a start */
-#define WUTHRACOMB_ROOM      10u  /* a lent length, at opening or replay or of an out slice */
+#define WUTHRACOMB_ROOM      10u  /* a lent length, at opening or replay or with no session */
 #define WUTHRACOMB_BACKWARD  11u  /* reading below the last reading */
 #define WUTHRACOMB_END       12u  /* steps made plus the steps due would pass 180,000 */
 #define WUTHRACOMB_LOG       13u  /* a log to be read isn't sound */
 #define WUTHRACOMB_FAULT     14u  /* what is handed back after opening isn't sound */
+
+/* A number of document 02. */
+
+#define WUTHRACOMB_LOAD      17u  /* a load, its stiffness or its step is out of range */
 
 /* An accepted call other than a delivery. */
 #define WUTHRACOMB_DONE     255u
@@ -109,6 +114,9 @@ extern "C" {
 #define WUTHRACOMB_MAX_RECORDS      2048
 #define WUTHRACOMB_LOG_BYTES       16384
 #define WUTHRACOMB_SESSION_WORDS       9
+#define WUTHRACOMB_LOAD_WORDS          2  /* x, v */
+#define WUTHRACOMB_MAX_LOAD        32767  /* x and v stay within this, either way */
+#define WUTHRACOMB_MAX_STIFFNESS    1024  /* a stiffness is 1 to this */
 
 /* The words of a session, each compared whole as 64 bits. */
 
@@ -291,6 +299,19 @@ uint32_t wuthracomb_log_sound(const uint8_t *log, size_t log_len);
 */
 uint32_t wuthracomb_step_records(const uint8_t *log, size_t log_len, uint32_t step,
                                  uint64_t *out, size_t out_len);
+
+/* Makes one step of a hanging load with a stiffness p: load is its offset x
+   and its speed v.  v becomes v minus p*x/1024 rounded down (also below 0),
+   then x becomes x plus the new v.  A load is no part of a session.
+
+   Refusals, in order:
+     ROOM  load_len isn't 2;
+     LOAD  stiffness isn't 1 to 1024, or x or v isn't within 32767 either way,
+           or one of them would not be after the step.
+
+   DONE: load holds the new x and v.
+*/
+uint32_t wuthracomb_load_step(uint32_t stiffness, int32_t *load, size_t load_len);
 
 #ifdef __cplusplus
 }

@@ -75,6 +75,8 @@ pub const END: u32 = 12;
 pub const LOG: u32 = 13;
 /// What is handed back after opening isn't sound.
 pub const FAULT: u32 = 14;
+/// A load, its stiffness or its step is out of range.
+pub const LOAD: u32 = 17;
 /// An accepted call other than a delivery.
 pub const DONE: u32 = 255;
 
@@ -112,6 +114,12 @@ pub const MAX_RECORDS: usize = 2048;
 pub const LOG_BYTES: usize = 16384;
 /// Words of a session.
 pub const SESSION_WORDS: usize = 9;
+/// Words of a hanging load, its offset and its speed.
+pub const LOAD_WORDS: usize = 2;
+/// A load's offset and speed stay within this, either way.
+pub const MAX_LOAD: i32 = 32767;
+/// A load's stiffness is 1 to this.
+pub const MAX_STIFFNESS: u32 = 1024;
 
 /// The session's word for W.
 pub const SESSION_W: usize = 0;
@@ -353,4 +361,17 @@ pub fn step_records(log: &[u8], step: u32, out: &mut [u64]) -> u32 {
     unsafe {
         raw::wuthracomb_step_records(log.as_ptr(), log.len(), step, out.as_mut_ptr(), out.len())
     }
+}
+
+/// Makes one step of a hanging load, whose offset is `load[0]` and whose speed is `load[1]`:
+/// [`DONE`], or [`ROOM`] where `load` isn't 2 long, [`LOAD`].
+///
+/// ```
+/// // 5 times -300, divided by 1,024 and rounded down, is -2.
+/// let mut load = [-300, 7];
+/// assert_eq!(wuthracomb::load_step(5, &mut load), wuthracomb::DONE);
+/// assert_eq!(load, [-291, 9]);
+/// ```
+pub fn load_step(stiffness: u32, load: &mut [i32]) -> u32 {
+    unsafe { raw::wuthracomb_load_step(stiffness, load.as_mut_ptr(), load.len()) }
 }

@@ -133,4 +133,6 @@ extern "C" {
         out: *mut u64,
         out_len: usize,
     ) -> u32;
+
+    pub fn wuthracomb_load_step(stiffness: u32, load: *mut i32, load_len: usize) -> u32;
 }

@@ -299,3 +299,11 @@ fn records_and_logs_of_nothing() {
     }
     assert_eq!(three, [7; 3]);
 }
+
+#[test]
+fn a_load_of_nothing() {
+    unsafe {
+        assert_eq!(wuthracomb_load_step(5, null_mut(), 0), ROOM);
+        assert_eq!(wuthracomb_load_step(0, null_mut(), 0), ROOM);
+    }
+}

@@ -81,6 +81,10 @@ pub enum Act {
         step: u32,
         out: usize,
     },
+    LoadStep {
+        stiffness: u32,
+        load: Vec<i32>,
+    },
 }
 
 impl Act {
@@ -97,6 +101,7 @@ impl Act {
             Act::WriteRecord { .. } => Some("write_record"),
             Act::LogSound(_) => Some("log_sound"),
             Act::StepRecords { .. } => Some("step_records"),
+            Act::LoadStep { .. } => Some("load_step"),
             Act::Lend(_) | Act::Put { .. } | Act::Resize { .. } | Act::Keep | Act::Restore => None,
         }
     }
@@ -155,6 +160,7 @@ impl fmt::Debug for Act {
             Act::StepRecords { log, step, out } => {
                 write!(f, "step_records {step} of {:?} into {out}", Short(log))
             }
+            Act::LoadStep { stiffness, load } => write!(f, "load_step {stiffness} of {load:?}"),
         }
     }
 }

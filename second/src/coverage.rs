@@ -4,8 +4,8 @@ use crate::numbers::*;
 use std::collections::BTreeMap;
 use std::fmt;
 
-/// Every number that document 01 and the C face let an entry give.
-const CAN_GIVE: [(&str, &[u32]); 10] = [
+/// Every number that documents 01 and 02 and the C face let an entry give.
+const CAN_GIVE: &[(&str, &[u32])] = &[
     ("open", &[WORLD, ROOM, DONE]),
     ("reading", &[FAULT, BACKWARD, END, DONE]),
     ("deliver", &[TAKEN, HELD, MALFORMED, CARRIER, LEVER, STEP, CONFLICT, LATE, FULL, FAULT]),
@@ -16,6 +16,7 @@ const CAN_GIVE: [(&str, &[u32]); 10] = [
     ("write_record", &[CARRIER, LEVER, STEP, ROOM, DONE]),
     ("log_sound", &[0, 1]),
     ("step_records", &[ROOM, DONE]),
+    ("load_step", &[ROOM, LOAD, DONE]),
 ];
 
 #[derive(Default)]
@@ -41,6 +42,12 @@ impl Coverage {
         possible().filter(|pair| !self.0.contains_key(pair)).collect()
     }
 
+    /// Those numbers of one entry that can occur and did not.
+    pub fn missing_of(&self, entry: &str) -> Vec<u32> {
+        let missing = self.missing().into_iter().filter(|(of, _)| *of == entry);
+        missing.map(|(_, number)| number).collect()
+    }
+
     /// The pairs that can't occur and did.
     pub fn impossible(&self) -> Vec<(&'static str, u32)> {
         self.0.keys().copied().filter(|pair| !possible().any(|other| other == *pair)).collect()
@@ -53,7 +60,7 @@ fn possible() -> impl Iterator<Item = (&'static str, u32)> {
 
 impl fmt::Display for Coverage {
     fn fmt(&self, f: &mut fmt::Formatter) -> fmt::Result {
-        for (entry, numbers) in CAN_GIVE {
+        for &(entry, numbers) in CAN_GIVE {
             write!(f, "{entry:>12}")?;
             for number in numbers {
                 write!(f, "  {number}: {}", self.0.get(&(entry, *number)).unwrap_or(&0))?;

@@ -1,6 +1,7 @@
-//! The independent second program: document 01 written a second time, compared with the library.
+//! The independent second program: documents 01 and 02 written a second time, compared with the
+//! library.
 //!
-//! `model` is document 01 as plainly as it can be said; `fast` is a hand-written Rust program to
+//! `model` is the documents as plainly as they can be said; `fast` is a hand-written Rust program to
 //! measure the library against; `library` is the library itself. All three are a [`Station`].
 //! `pair` does the same calls with the model and another station and compares everything after
 //! each; `wander` makes random runs of such calls, `shrink` finds the smallest that differs.
@@ -35,7 +36,7 @@ pub fn others() -> Vec<&'static dyn Station> {
     ]
 }
 
-/// Copies of the model with a bug in each, with the sentence of document 01 that it breaks.
+/// Copies of the model with a bug in each, with the sentence that it breaks.
 #[cfg(feature = "plants")]
 pub mod plants {
     include!(concat!(env!("OUT_DIR"), "/plants.rs"));

@@ -55,4 +55,8 @@ impl Station for Library {
     fn step_records(&self, log: &[u8], step: u32, out: &mut [u64]) -> u32 {
         wuthracomb::step_records(log, step, out)
     }
+
+    fn load_step(&self, stiffness: u32, load: &mut [i32]) -> u32 {
+        wuthracomb::load_step(stiffness, load)
+    }
 }

@@ -1,4 +1,4 @@
-//! "Numbers given back", and the one that document 01 leaves to the C face.
+//! "Numbers given back", those of document 02, and the one that is left to the C face.
 
 pub const TAKEN: u32 = 0;
 pub const HELD: u32 = 1;
@@ -15,10 +15,12 @@ pub const BACKWARD: u32 = 11;
 pub const END: u32 = 12;
 pub const LOG: u32 = 13;
 pub const FAULT: u32 = 14;
+/// Of a hanging load (02 §7).
+pub const LOAD: u32 = 17;
 /// An accepted call other than a delivery.
 pub const DONE: u32 = 255;
 
-/// 2 to 14 are refusals.
+/// Every number from 2 on that isn't `DONE` is a refusal.
 pub fn is_refusal(number: u32) -> bool {
-    (MALFORMED..=FAULT).contains(&number)
+    (MALFORMED..DONE).contains(&number)
 }

@@ -5,12 +5,13 @@ use crate::guarded::Guarded;
 use crate::station::{Lent, Station};
 use std::fmt;
 
-/// What a call gave: its number, and the words of its `out` slice (f64 by bit pattern).
+/// What a call gave: its number, and the words of the slice of its own that it writes, as 64 bits
+/// (f64 by bit pattern).
 #[derive(Clone, PartialEq)]
 pub struct Answer {
     pub number: u32,
     pub out: Vec<u64>,
-    /// No word of the `out` slice has changed.
+    /// No word of that slice has changed.
     pub out_as_before: bool,
     /// Bytes lent to be read, or standing before a slice, have changed.
     pub harm: bool,
@@ -189,6 +190,9 @@ impl<'s> Side<'s> {
             Act::StepRecords { log, step, out } => {
                 reading(log, |log| writing(*out, |out| station.step_records(log, *step, out)))
             }
+            Act::LoadStep { stiffness, load } => {
+                changing(load, |load| station.load_step(*stiffness, load))
+            }
             between => {
                 self.between(between);
                 return None;
@@ -247,20 +251,28 @@ fn number(number: u32) -> Answer {
     Answer { number, out: Vec::new(), out_as_before: true, harm: false }
 }
 
-/// A call that only reads these bytes.
-fn reading(bytes: &[u8], call: impl FnOnce(&[u8]) -> Answer) -> Answer {
-    let lent = Guarded::new(bytes);
+/// A call that only reads these words.
+fn reading<T: Word>(words: &[T], call: impl FnOnce(&[T]) -> Answer) -> Answer {
+    let lent = Guarded::new(words);
     let mut answer = call(&lent);
-    answer.harm |= *lent != *bytes || !lent.canary_is_whole();
+    answer.harm |= bits(&lent) != bits(words) || !lent.canary_is_whole();
     answer
 }
 
 /// A call that writes its answer into a slice of this length.
 fn writing<T: Word>(len: usize, call: impl FnOnce(&mut [T]) -> u32) -> Answer {
-    let before = T::cut(BEFORE);
-    let mut lent = Guarded::new(&vec![before; len]);
+    changing(&vec![T::cut(BEFORE); len], call)
+}
+
+/// A call that changes a slice with these words.
+fn changing<T: Word>(words: &[T], call: impl FnOnce(&mut [T]) -> u32) -> Answer {
+    let mut lent = Guarded::new(words);
     let number = call(&mut lent);
-    let out: Vec<u64> = lent.iter().map(|word| word.bits()).collect();
-    let out_as_before = out.iter().all(|&word| word == before.bits());
+    let out = bits(&lent);
+    let out_as_before = out == bits(words);
     Answer { number, out, out_as_before, harm: !lent.canary_is_whole() }
+}
+
+fn bits<T: Word>(words: &[T]) -> Vec<u64> {
+    words.iter().map(|word| word.bits()).collect()
 }

@@ -4,4 +4,6 @@ pub mod Order
 pub mod Ladder
 pub mod LittleEndian
 pub mod Lists
+pub mod Signed
+pub mod Ring
 pub mod Statements

@@ -23,6 +23,7 @@ table =
       end = refl;
       log = refl;
       fault = refl;
+      load = refl;
     }
 
 pub exactlyWhen : ExactlyWhen

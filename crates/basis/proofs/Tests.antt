@@ -1,11 +1,12 @@
--- Laws of tests: a conjunction and its parts, a test that is both true and false, and the fact
--- that a test says.
+-- Laws of tests: a conjunction and its parts, a test that is both true and false, a choice by a
+-- test, what a call answered, and the fact that a test says.
 use Prim.Native.Nat.{ℕ, _≤_, _<_}
 use mathlib.Core.Path.{_≡_, refl, sym, _∙_}
 use mathlib.Core.Logic.{_↔_, _⊎_, inl, inr, ⊎-elim}
-use mathlib.Core.Bool.{Bool, true, false, _&&_, _||_, true≢false}
+use mathlib.Core.Bool.{Bool, true, false, cond, not, _&&_, _||_, true≢false}
 use lib.Dec.{leb, ltb, eqb}
 use borrow.Author.Tests.{leb-true, ltb-true, eqb-true, le-leb, lt-ltb, eq-eqb}
+use borrow.Author.Tests.{not-true, not-false}
 
 pub never : {A : Type 0} {t : Bool} → t ≡ true → t ≡ false → A
 never p q = absurd (true≢false (sym p ∙ q))
@@ -27,6 +28,19 @@ not-left s t p = rw p
 pub not-right : (s t : Bool) → t ≡ false → (s && t) ≡ false
 not-right true t p = p
 not-right false t p = refl
+
+-- What holds of each branch, where its test holds, is true of a choice between the two.
+pub of-cond : {A : Type 0} (P : A → Type 0) (t : Bool) {x y : A} → (t ≡ true → P x)
+    → (t ≡ false → P y) → P (cond t x y)
+of-cond P true f g = f refl
+of-cond P false f g = g refl
+
+-- What a call answered, where `if !call(..)` was passed and where it was taken.
+pub passed : {r a : Bool} → r ≡ a → not r ≡ false → a ≡ true
+passed {r} e h = sym e ∙ not-false r h
+
+pub failed : {r a : Bool} → r ≡ a → not r ≡ true → a ≡ false
+failed {r} e h = sym e ∙ not-true r h
 
 -- The fact that a test of two numbers says.
 pub says-le : (a b : ℕ) → (leb a b ≡ true) ↔ (a ≤ b)

@@ -1,4 +1,5 @@
--- Document 01, 'Numbers given back', by name, and the limits that rules of several crates name.
+-- Document 01, 'Numbers given back', by name, with those that document 02 adds, and the limits that
+-- rules of several crates name.
 use Prim.Native.Nat.{ℕ}
 
 -- 'the record is now held'
@@ -62,6 +63,10 @@ LOG = 13
 -- 'after opening, the session or a buffer handed back isn't sound, wrong lengths included'
 abbrev pub FAULT : ℕ
 FAULT = 14
+
+-- 'A stiffness or state out of range, or a step that would leave the range' (02 §7)
+abbrev pub LOAD : ℕ
+LOAD = 17
 
 -- 'There are B carriers, 1 to 32'
 abbrev pub mostCarriers : ℕ

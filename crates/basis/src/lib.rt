@@ -34,6 +34,9 @@ impl Number {
     pub const LOG: u8 = 13;
 
     pub const FAULT: u8 = 14;
+
+    // Document 02, §7.
+    pub const LOAD: u8 = 17;
 }
 
 pub struct Limit {}

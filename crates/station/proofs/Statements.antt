@@ -6,12 +6,14 @@ use mathlib.Core.List.{List, [], _∷_}
 use native.Mathlib.Omega.{arith}
 use lib.Dec.{eqb}
 use lib.Ieee.{Float}
+use lib.IntN.{ℤ}
 use lib.ListN.{length}
 use borrow.Author.Tests.{eq-eqb, ne-eqb}
 use Rattle.basis.specs.Numbers.{ROOM, FAULT}
 use Rattle.basis.specs.Order.{Order, answer, refused, andThen, give}
 use Rattle.basis.proofs.Order.{passes, fails, one-result}
 use Rattle.basis.proofs.Tests.{never, and-both}
+use Rattle.load.specs.Step.{stepOrder}
 use Rattle.yard.specs.Rule9.{rangesHold}
 use Rattle.yard.specs.declared.world.Yard.{Yard}
 use Rattle.session.specs.Calls.{worldOrder, openOrder, readingOrder, deliverOrder}
@@ -22,9 +24,10 @@ use Rattle.session.specs.declared.Session.{Session}
 use Rattle.session.proofs.Good.{bad-ranges}
 use Rattle.station.specs.Words.{sessionWords, sessionOf, nine}
 use Rattle.station.specs.Face.{openFace, readingFace, deliverFace, shows, digestFace}
-use Rattle.station.specs.Face.{shownFace, stepRecordsFace}
+use Rattle.station.specs.Face.{shownFace, stepRecordsFace, loadOf, loadStepFace}
 use Rattle.station.specs.Statements.{NineWords, Determined, Refusals}
-use Rattle.station.specs.Statements.{Lengths, Thin}
+use Rattle.station.specs.Statements.{Lengths, Thin, LoadFace}
+use Rattle.station.proofs.Loading.{load-numbers}
 use Rattle.station.proofs.OneRecord.{read-no-room, not-eight}
 use Rattle.station.proofs.Showing.{wrong-out, shows-order}
 
@@ -49,6 +52,7 @@ determined =
       stepRecords = λ log step out. one-result;
       readRecord = λ bytes out. one-result;
       writeRecord = λ step carrier lever out. one-result;
+      loadStep = λ stiffness words. one-result;
       opens = λ yard reading l words. one-result;
       reading = λ reading l words. one-result;
       deliver = λ bytes l words. one-result;
@@ -133,6 +137,11 @@ part-room : (log : List ℕ) (step : ℕ) (out : List ℕ) → (length out ≡ 2
 unfolding stepRecordsFace
 part-room log step out h = fails _ _ (ne-eqb _ _ h)
 
+load-room : (stiffness : ℕ) (words : List ℤ) → (length words ≡ 2 → ⊥)
+    → answer (loadStepFace stiffness words) ≡ refused ROOM
+unfolding loadStepFace
+load-room stiffness words h = fails _ _ (ne-eqb _ _ h)
+
 pub lengths : Lengths
 lengths =
     record {
@@ -149,6 +158,7 @@ lengths =
       stepRecords = part-room;
       readRecord = λ bytes out r. read-no-room bytes out;
       writeRecord = λ step carrier lever out r. not-eight step carrier lever out;
+      loadStep = load-room;
     }
 
 readings : (reading : ℕ) (l : Lent) (words : List ℕ) → length words ≡ 9
@@ -175,6 +185,13 @@ shows-place : (carrier : ℕ) (l : Lent) (words : List ℕ) (out : List Float)
 unfolding shownFace
 shows-place carrier l words out long two = shows-order _ _ _ _ _ two (eq-eqb _ _ long)
 
+load-steps : (stiffness : ℕ) (words : List ℤ) → length words ≡ 2
+    → answer (loadStepFace stiffness words)
+    ≡ answer (andThen (stepOrder stiffness (loadOf words))
+    (λ after. give (after .x ∷ after .v ∷ [])))
+unfolding loadStepFace
+load-steps stiffness words two = passes _ _ (eq-eqb _ _ two)
+
 pub thin : Thin
 thin =
     record {
@@ -183,6 +200,7 @@ thin =
       deliver = delivers;
       digest = digests;
       shown = shows-place;
+      loadStep = load-steps;
     }
 
 session-forth : (s : Session) → sessionOf (sessionWords s) ≡ s
@@ -196,3 +214,6 @@ nineWords =
       words = session-back;
       whole = λ words l. bad-ranges (sessionOf words) l;
     }
+
+pub loadFace : LoadFace
+loadFace = record { numbers = load-numbers }

@@ -1,18 +1,21 @@
--- The functions of the C face: document 01's orders, and the lengths that the face adds to them.
--- Each is read as an order of `session` or `record` is, from the top down: `readingFace` is 14 for
--- a session that isn't nine words, and then 14, 11, 12 of the session in them. `words` is the lent
--- session, `out` a lent slice for what is given.
+-- The functions of the C face: the orders of documents 01 and 02, and the lengths that the face adds
+-- to them. Each is read as an order of `session` or `record` is, from the top down: `readingFace` is
+-- 14 for a session that isn't nine words, and then 14, 11, 12 of the session in them. `words` is the
+-- lent session, `out` a lent slice for what is given.
 use Prim.Native.Nat.{ℕ, _+_}
 use mathlib.Core.Bool.{cond}
 use mathlib.Core.List.{List, [], _∷_}
 use lib.Dec.{eqb}
 use lib.Ieee.{Float}
-use lib.ListN.{length}
+use lib.IntN.{ℤ, pos}
+use lib.ListN.{getD, length}
 use Rattle.basis.specs.Numbers.{WORLD, ROOM, FAULT, mostCarriers}
 use Rattle.basis.specs.Order.{Order, check, give, andThen}
 use Rattle.record.specs.Bytes.{bytesOf, readOrder, writeOrder}
 use Rattle.record.specs.Log.{soundLog}
 use Rattle.record.specs.Part.{partStart, partLength}
+use Rattle.load.specs.Step.{stepOrder}
+use Rattle.load.specs.declared.Load.{Load}
 use Rattle.yard.specs.Rule9.{rangesHold}
 use Rattle.yard.specs.declared.world.Yard.{Yard}
 use Rattle.session.specs.Calls.{Delivery, openOrder, readingOrder, deliverOrder, digestOrder}
@@ -48,6 +51,17 @@ writeRecordFace step carrier lever out =
     andThen (writeOrder step carrier lever)
     (λ r. check (eqb (length out) 8) ROOM
     (give (bytesOf r)))
+
+-- The load in two words, its offset and its speed.
+abbrev pub loadOf : List ℤ → Load
+loadOf words = record { x = getD words 0 (pos 0); v = getD words 1 (pos 0) }
+
+-- `wuthracomb_load_step`: the load after the step, into the same two words.
+unfoldable pub loadStepFace : ℕ → List ℤ → Order (List ℤ)
+loadStepFace stiffness load =
+    check (eqb (length load) 2) ROOM
+    (andThen (stepOrder stiffness (loadOf load))
+    (λ after. give (after .x ∷ after .v ∷ [])))
 
 -- `wuthracomb_open`: the session's length among the other lengths; the ranges stand before both.
 unfoldable pub openFace : Yard → ℕ → Lent → List ℕ → Order (Made Session)

@@ -1,12 +1,14 @@
-// The C face of `record` and `session`: numbers and slices only, as include/wuthracomb.h has them.
-// A slice is a pointer and a length; every function answers document 01's number, or 255 for an
-// accepted call other than a delivery.
+// The C face of `record`, `session` and `load`: numbers and slices only, as include/wuthracomb.h has
+// them. A slice is a pointer and a length; every function answers a number of documents 01 and 02,
+// or 255 for an accepted call other than a delivery.
 //   words    a session as nine words
 //   records  one record, a log, the records of one step
 //   calls    opening, reading, delivery, replay
 //   show     the digest, and the shown place of a carrier
+//   loads    one step of a hanging load
 
 mod calls;
+mod loads;
 mod records;
 mod show;
 mod words;
@@ -16,6 +18,7 @@ pub use calls::wuthracomb_deliver;
 pub use calls::wuthracomb_open;
 pub use calls::wuthracomb_reading;
 pub use calls::wuthracomb_replay;
+pub use loads::wuthracomb_load_step;
 pub use records::wuthracomb_log_sound;
 pub use records::wuthracomb_read_record;
 pub use records::wuthracomb_step_records;

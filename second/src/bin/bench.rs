@@ -51,6 +51,7 @@ const LINES: &[Line] = &[
     },
     Line { name: "soundness of a full log", ready: full, work: log_sound, times: 500, steps: 0 },
     Line { name: "digest of a full session", ready: full, work: digest, times: 500, steps: 0 },
+    Line { name: "1,000 steps of a hanging load", ready: full, work: load, times: 20, steps: 0 },
 ];
 
 fn print_line(line: &Line, subject: Duration, fast: Duration) {
@@ -167,6 +168,15 @@ fn log_sound(station: &dyn Station, _: &mut Buffers, ground: &Ground) {
     for _ in 0..500 {
         assert_eq!(station.log_sound(&ground.log), 1);
     }
+}
+
+/// The load that is left goes into the state, where the two are compared.
+fn load(station: &dyn Station, buffers: &mut Buffers, _: &Ground) {
+    let mut load = [10_000, 0];
+    for _ in 0..20_000 {
+        assert_eq!(station.load_step(300, &mut load), DONE);
+    }
+    buffers.state[..2].copy_from_slice(&load);
 }
 
 fn digest(station: &dyn Station, buffers: &mut Buffers, _: &Ground) {

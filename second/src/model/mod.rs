@@ -1,4 +1,5 @@
-//! The plain model: document 01 written out, one file for each of its sections.
+//! The plain model: document 01 written out, one file for each of its sections, and requests of
+//! document 02.
 //!
 //! It walks unit by unit, reads the log into a sorted map, and writes to a lent slice only after
 //! the last refusal. It is meant to be read beside the document, not to be fast. `plants/` has
@@ -8,6 +9,7 @@ mod calls;
 mod clock;
 mod digest;
 mod levers;
+mod load;
 mod log;
 mod record;
 mod session;

@@ -5,12 +5,14 @@
 //! without the choosing.
 
 mod damage;
+mod load;
 mod values;
 
 use crate::act::{Act, Slice};
 use crate::coverage::Coverage;
 use crate::pair::{Difference, Pair};
 use crate::random::Random;
+use crate::side::Answer;
 use crate::station::{word, Shape, Station};
 use crate::worlds::World;
 
@@ -23,8 +25,21 @@ pub struct Run {
 
 /// Makes the run of this seed.
 pub fn run(other: &dyn Station, seed: u64) -> Run {
+    run_of(Wander::wander, other, seed)
+}
+
+/// Makes a run of this seed that has only steps of hanging loads.
+pub fn run_of_loads(other: &dyn Station, seed: u64) -> Run {
+    run_of(|wander| wander.loads(60), other, seed)
+}
+
+fn run_of<'s>(
+    acts: fn(&mut Wander<'s>) -> Result<(), Difference>,
+    other: &'s dyn Station,
+    seed: u64,
+) -> Run {
     let mut wander = Wander::new(other, seed);
-    let difference = wander.wander().err();
+    let difference = acts(&mut wander).err();
     Run { acts: wander.acts, coverage: wander.pair.coverage, difference }
 }
 
@@ -40,16 +55,22 @@ impl<'s> Wander<'s> {
     }
 
     fn act(&mut self, act: Act) -> Result<(), Difference> {
+        self.answer(act).map(|_| ())
+    }
+
+    /// The answer, if it was a call.
+    fn answer(&mut self, act: Act) -> Result<Option<Answer>, Difference> {
         self.acts.push(act);
-        self.pair.act(self.acts.last().unwrap()).map(|_| ())
+        self.pair.act(self.acts.last().unwrap())
     }
 
     fn wander(&mut self) -> Result<(), Difference> {
         match self.random.below(8) {
-            0 => self.hostile(),
-            1 | 2 => self.valid(false),
-            _ => self.valid(true),
+            0 => self.hostile()?,
+            1 | 2 => self.valid(false)?,
+            _ => self.valid(true)?,
         }
+        self.loads(5)
     }
 
     /// A valid world opened, then calls in any order; with damage between them if asked.
