@@ -63,6 +63,11 @@ LOG = 13
 abbrev pub FAULT : ℕ
 FAULT = 14
 
+-- 'More than eight forces, a number of the point or of a counted force that isn't finite, or a
+-- result that isn't finite' (02 §8)
+abbrev pub ROPE : ℕ
+ROPE = 18
+
 -- 'There are B carriers, 1 to 32'
 abbrev pub mostCarriers : ℕ
 mostCarriers = 32

@@ -48,3 +48,7 @@ OneOutcome {O} says this = (a b : O) → says a ≡ this → says b ≡ this →
 -- The same of a contract by which the outcome itself is this.
 abbrev pub OneResult : {A : Type 0} → A → Type 0
 OneResult {A} = OneOutcome {O = A} (λ a. a)
+
+-- 'any two outcomes allowed by it coincide', of a contract by its name.
+abbrev pub Determines : {O : Type 0} → (O → Type 0) → Type 0
+Determines {O} says = (a b : O) → says a → says b → a ≡ b

@@ -34,6 +34,9 @@ impl Number {
     pub const LOG: u8 = 13;
 
     pub const FAULT: u8 = 14;
+
+    // Document 02, §8.
+    pub const ROPE: u8 = 18;
 }
 
 pub struct Limit {}
