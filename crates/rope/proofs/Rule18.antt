@@ -31,10 +31,7 @@ pub not-finite : (x : Float) → (finite x ≡ false) ↔ NotFinite x
 not-finite nan = (λ e. inl refl, λ h. refl)
 not-finite (inf false) = (λ e. inr (inl refl), λ h. refl)
 not-finite (inf true) = (λ e. inr (inr refl), λ h. refl)
-not-finite (fin s m e) = (never refl, ⊎-elim differs (⊎-elim differs differs))
-  where
-    differs : {y : Float} → fin s m e ≡ y → true ≡ finite y → finite y ≡ false
-    differs q t = sym t
+not-finite (fin s m e) = (never refl, ⊎-elim (ap finite) (⊎-elim (ap finite) (ap finite)))
 
 pub point-not-finite : (point : Point) → (finitePoint point ≡ false) ↔ PointNotFinite point
 unfolding finitePoint
