@@ -1,13 +1,15 @@
-// The C face of `record` and `session`: numbers and slices only, as include/wuthracomb.h has them.
+// The C face of `record`, `session` and `rope`: numbers and slices only, as include/wuthracomb.h has them.
 // A slice is a pointer and a length; every function answers document 01's number, or 255 for an
 // accepted call other than a delivery.
 //   words    a session as nine words
 //   records  one record, a log, the records of one step
 //   calls    opening, reading, delivery, replay
 //   show     the digest, and the shown place of a carrier
+//   rope_ends  one step of a rope end
 
 mod calls;
 mod records;
+mod rope_ends;
 mod show;
 mod words;
 
@@ -20,6 +22,7 @@ pub use records::wuthracomb_log_sound;
 pub use records::wuthracomb_read_record;
 pub use records::wuthracomb_step_records;
 pub use records::wuthracomb_write_record;
+pub use rope_ends::wuthracomb_rope_step;
 pub use show::wuthracomb_digest;
 pub use show::wuthracomb_shown;
 
