@@ -6,7 +6,7 @@ use mathlib.Core.Logic.{_↔_, _⊎_, inl, inr, ⊎-elim}
 use mathlib.Core.Bool.{Bool, true, false}
 use Rattle.basis.specs.Order.{Answer, refused, accepted, Order, check, give, answer, andThen}
 use Rattle.basis.specs.Order.{isAccepted, First, here, later, Passed, end, after}
-use Rattle.basis.specs.Order.{OneOutcome, OneResult}
+use Rattle.basis.specs.Order.{Determines}
 use Rattle.basis.proofs.Tests.{never}
 
 module _ {A : Type 0} where
@@ -136,10 +136,11 @@ module _ {A B : Type 0} where
         go (accepted a) e q =
             inr (a, exactly-result order a .0 e, exactly-number _ n .0 (sym (goes-on e) ∙ q))
 
--- A contract allows one outcome, where no two outcomes say the same.
-pub one-outcome : {O C : Type 0} {says : O → C} → ((a b : O) → says a ≡ says b → a ≡ b)
-    → {this : C} → OneOutcome says this
+-- A contract that says what an outcome tells allows one, where no two outcomes tell the same.
+pub one-outcome : {O C : Type 0} {tells : O → C} → ((a b : O) → tells a ≡ tells b → a ≡ b)
+    → {this : C} → Determines (λ out. tells out ≡ this)
 one-outcome apart-or-same a b p q = apart-or-same a b (p ∙ sym q)
 
-pub one-result : {A : Type 0} {this : A} → OneResult this
+-- So does one that says what the outcome is.
+pub one-result : {A : Type 0} {this : A} → Determines (λ out. out ≡ this)
 one-result a b p q = p ∙ sym q

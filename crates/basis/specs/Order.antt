@@ -41,14 +41,6 @@ unfoldable pub andThen : {A B : Type 0} → Order A → (A → Order B) → Orde
 andThen (check test number rest) next = check test number (andThen rest next)
 andThen (give a) next = next a
 
--- 'any two outcomes allowed by it coincide', of a contract by which what an outcome says is this.
-abbrev pub OneOutcome : {O C : Type 0} → (O → C) → C → Type 0
-OneOutcome {O} says this = (a b : O) → says a ≡ this → says b ≡ this → a ≡ b
-
--- The same of a contract by which the outcome itself is this.
-abbrev pub OneResult : {A : Type 0} → A → Type 0
-OneResult {A} = OneOutcome {O = A} (λ a. a)
-
--- 'any two outcomes allowed by it coincide', of a contract by its name.
+-- 'any two outcomes allowed by it coincide', of a contract: `says a` is that it allows the outcome a.
 abbrev pub Determines : {O : Type 0} → (O → Type 0) → Type 0
 Determines {O} says = (a b : O) → says a → says b → a ≡ b

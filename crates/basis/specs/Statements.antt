@@ -1,4 +1,5 @@
--- What is claimed of orders and of little-endian numbers; proofs/Statements.antt proves it.
+-- What is claimed of the numbers, of orders and of little-endian numbers; proofs/Statements.antt
+-- proves it.
 use Prim.Native.Nat.{ℕ, _<_, _^_}
 use mathlib.Core.Path.{_≡_}
 use mathlib.Core.Logic.{_↔_, _⊎_}
@@ -7,9 +8,30 @@ use mathlib.Core.List.{List}
 use lib.ListN.{length}
 use Rattle.basis.specs.Order.{refused, accepted, Order, check, answer, First, Passed}
 use Rattle.basis.specs.Order.{andThen}
+use Rattle.basis.specs.Numbers.{TAKEN, HELD, MALFORMED, CARRIER, LEVER, STEP, CONFLICT, LATE}
+use Rattle.basis.specs.Numbers.{FULL, WORLD, ROOM, BACKWARD, END, LOG, FAULT}
 use Rattle.basis.specs.LittleEndian.{valueOf, littleEndian, Bytes}
 
--- 'each given exactly when its rule says' (demand 1), once over any order.
+-- 'Numbers given back': each name and its number.
+pub record Table : Type 0 where
+  pub taken : TAKEN ≡ 0
+  pub held : HELD ≡ 1
+  pub malformed : MALFORMED ≡ 2
+  pub carrier : CARRIER ≡ 3
+  pub lever : LEVER ≡ 4
+  pub step : STEP ≡ 5
+  pub conflict : CONFLICT ≡ 6
+  pub late : LATE ≡ 7
+  pub full : FULL ≡ 8
+  pub world : WORLD ≡ 9
+  pub room : ROOM ≡ 10
+  pub backward : BACKWARD ≡ 11
+  pub end : END ≡ 12
+  pub log : LOG ≡ 13
+  pub fault : FAULT ≡ 14
+
+-- 'each given exactly when its rule says' (demand 1): what holds of any order at all. What document
+-- 01's own orders give, and when, is said in plain facts in `demands`.
 pub record ExactlyWhen : Type 1 where
   -- A number comes back if and only if a test with it is the first of the order that fails.
   pub number : {A : Type 0} (order : Order A) (n : ℕ) → (answer order ≡ refused n) ↔ First n order

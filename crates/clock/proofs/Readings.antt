@@ -10,7 +10,7 @@ use Rattle.basis.specs.Numbers.{BACKWARD, END, FAULT, mostSteps}
 use Rattle.basis.specs.Order.{Answer, refused, accepted, check, give, answer}
 use Rattle.basis.proofs.Order.{passes, fails, gives}
 use Rattle.clock.specs.Clock.{due, soundClock}
-use Rattle.clock.specs.Reading.{Given, givenBy, readingOrder}
+use Rattle.clock.specs.Reading.{Given, givenBy, clockOrder}
 use Rattle.clock.specs.declared.Clock.{Clock}
 use Rattle.clock.proofs.Sound.{sound-says}
 use Rattle.clock.proofs.Ticks.{equal-due, equal-ticked}
@@ -39,8 +39,8 @@ module _ (length : ℕ) (clock : Clock) (reading : ℕ) where
     end : Past → Outcome (refused END)
     taken : Within → Outcome (accepted (givenBy length clock reading))
 
-  pub outcome-of : Outcome (answer (readingOrder length clock reading))
-  unfolding readingOrder answer
+  pub outcome-of : Outcome (answer (clockOrder length clock reading))
+  unfolding clockOrder answer
   outcome-of = go _ _ _ refl refl refl
     where
       go : (s f w : Bool) → soundClock length clock ≡ s → leb (clock .last) reading ≡ f
@@ -55,49 +55,49 @@ module _ (length : ℕ) (clock : Clock) (reading : ℕ) where
 
   -- From what the tests said to the answer.
   pub is-fault : soundClock length clock ≡ false
-      → answer (readingOrder length clock reading) ≡ refused FAULT
-  unfolding readingOrder
+      → answer (clockOrder length clock reading) ≡ refused FAULT
+  unfolding clockOrder
   is-fault s = fails _ _ s
 
-  pub is-backward : Below → answer (readingOrder length clock reading) ≡ refused BACKWARD
-  unfolding readingOrder
+  pub is-backward : Below → answer (clockOrder length clock reading) ≡ refused BACKWARD
+  unfolding clockOrder
   is-backward (s, h) = passes _ _ s ∙ fails _ _ (lt-leb _ _ h)
 
-  pub is-end : Past → answer (readingOrder length clock reading) ≡ refused END
-  unfolding readingOrder
+  pub is-end : Past → answer (clockOrder length clock reading) ≡ refused END
+  unfolding clockOrder
   is-end (s, h, k) = passes _ _ s ∙ passes _ _ (le-leb _ _ h) ∙ fails _ _ (lt-leb _ _ k)
 
   pub is-taken : Within
-      → answer (readingOrder length clock reading) ≡ accepted (givenBy length clock reading)
-  unfolding readingOrder
+      → answer (clockOrder length clock reading) ≡ accepted (givenBy length clock reading)
+  unfolding clockOrder
   is-taken (s, h, k) =
       passes _ _ s ∙ passes _ _ (le-leb _ _ h) ∙ passes _ _ (le-leb _ _ k) ∙ gives _
 
   -- From the answer to what the tests said.
-  pub told : (a : Answer Given) → answer (readingOrder length clock reading) ≡ a → Outcome a
+  pub told : (a : Answer Given) → answer (clockOrder length clock reading) ≡ a → Outcome a
   told a e = subst Outcome e outcome-of
 
-  pub exactly-fault : (answer (readingOrder length clock reading) ≡ refused FAULT)
+  pub exactly-fault : (answer (clockOrder length clock reading) ≡ refused FAULT)
       ↔ (soundClock length clock ≡ false)
   exactly-fault = (λ e. go (told _ e), is-fault)
     where
       go : Outcome (refused FAULT) → soundClock length clock ≡ false
       go (fault s) = s
 
-  pub exactly-backward : (answer (readingOrder length clock reading) ≡ refused BACKWARD) ↔ Below
+  pub exactly-backward : (answer (clockOrder length clock reading) ≡ refused BACKWARD) ↔ Below
   exactly-backward = (λ e. go (told _ e), is-backward)
     where
       go : Outcome (refused BACKWARD) → Below
       go (backward w) = w
 
-  pub exactly-end : (answer (readingOrder length clock reading) ≡ refused END) ↔ Past
+  pub exactly-end : (answer (clockOrder length clock reading) ≡ refused END) ↔ Past
   exactly-end = (λ e. go (told _ e), is-end)
     where
       go : Outcome (refused END) → Past
       go (end w) = w
 
   pub exactly-given : (given : Given)
-      → (answer (readingOrder length clock reading) ≡ accepted given)
+      → (answer (clockOrder length clock reading) ≡ accepted given)
       ↔ (Within × (givenBy length clock reading ≡ given))
   exactly-given given = (λ e. go (told _ e), λ w. is-taken (w .0) ∙ ap accepted (w .1))
     where
@@ -107,7 +107,7 @@ module _ (length : ℕ) (clock : Clock) (reading : ℕ) where
 
 -- An equal reading is accepted, leaves the clock as it was and makes no step.
 pub equal-reading : (length : ℕ) (clock : Clock) → soundClock length clock ≡ true
-    → answer (readingOrder length clock (clock .last))
+    → answer (clockOrder length clock (clock .last))
     ≡ accepted (record { clock = clock; due = 0 })
 equal-reading length clock s =
     let known = sound-says s in

@@ -22,3 +22,7 @@ pub record Grouped (readings : List ℕ) : Type 0 where
 -- 'Readings 0, 7000, 14000, 21000 do as 0, 21000: 1 step, remainder 1000.'
 abbrev pub GroupingExample : Type 0
 GroupingExample = Grouped (7000 ∷ 14000 ∷ 21000 ∷ []) × Grouped (21000 ∷ [])
+
+-- 'no gap over 250,000 microseconds': one of exactly 250,000 is none, one of 250,001 is.
+abbrev pub LongestGapExample : Type 0
+LongestGapExample = NoLongGap 0 (250000 ∷ []) × (NoLongGap 0 (250001 ∷ []) → ⊥)

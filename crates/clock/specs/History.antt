@@ -5,14 +5,14 @@ use mathlib.Core.Path.{_≡_}
 use mathlib.Core.List.{List, [], _∷_}
 use Rattle.basis.specs.Order.{Answer, refused, accepted, answer}
 use Rattle.clock.specs.Clock.{longestGap, fresh}
-use Rattle.clock.specs.Reading.{Given, readingOrder, clockLeft}
+use Rattle.clock.specs.Reading.{Given, clockOrder, clockLeft}
 use Rattle.clock.specs.declared.Clock.{Clock}
 
 -- The clock after a list of readings.
 unfoldable pub afterReadings : ℕ → Clock → List ℕ → Clock
 afterReadings length clock [] = clock
 afterReadings length clock (reading ∷ later) =
-    afterReadings length (clockLeft clock (answer (readingOrder length clock reading))) later
+    afterReadings length (clockLeft clock (answer (clockOrder length clock reading))) later
 
 -- A reading before the later ones where it was accepted; where it was refused, these alone.
 abbrev pub kept : Answer Given → ℕ → List ℕ → List ℕ
@@ -23,7 +23,7 @@ kept (refused number) reading later = later
 unfoldable pub acceptedOf : ℕ → Clock → List ℕ → List ℕ
 acceptedOf length clock [] = []
 acceptedOf length clock (reading ∷ later) =
-    let reply : Answer Given = answer (readingOrder length clock reading) in
+    let reply : Answer Given = answer (clockOrder length clock reading) in
     kept reply reading (acceptedOf length (clockLeft clock reply) later)
 
 -- The clock of a session that opened with a first reading, after a history.

@@ -19,17 +19,17 @@ givenBy length clock reading =
     record { clock = ticked length clock reading; due = due length clock reading }
 
 -- 'Reading: 14, 11, 12.' Of 14 the clock's own share: its words are sound.
-unfoldable pub readingOrder : ℕ → Clock → ℕ → Order Given
-readingOrder length clock reading =
+unfoldable pub clockOrder : ℕ → Clock → ℕ → Order Given
+clockOrder length clock reading =
     check (soundClock length clock) FAULT
     (check (leb (clock .last) reading) BACKWARD
     (check (leb (clock .steps + due length clock reading) mostSteps) END
     (give (givenBy length clock reading))))
 
 -- The number, or the values, of each case of the code's answer.
-abbrev pub answerOf : Reading → Answer Given
-answerOf (Accepted clock due) = accepted (record { clock = clock; due = due })
-answerOf (Refused number) = refused number
+abbrev pub clockAnswer : Reading → Answer Given
+clockAnswer (Accepted clock due) = accepted (record { clock = clock; due = due })
+clockAnswer (Refused number) = refused number
 
 -- The clock after an answer: an accepted reading's new clock; a refusal leaves it as before.
 abbrev pub clockLeft : Clock → Answer Given → Clock

@@ -1,9 +1,7 @@
 // The clock: readings in, steps due out. Document 01, 'The clock'.
 ghost use mathlib.Core.Path.{_≡_};
-ghost use Rattle.basis.specs.Numbers.{stepLength};
-ghost use Rattle.basis.specs.Order.{answer};
-ghost use Rattle.clock.specs.Clock.{fresh, used, soundClock};
-ghost use Rattle.clock.specs.Reading.{readingOrder, answerOf};
+ghost use Rattle.clock.specs.Clock.{used};
+ghost use Rattle.clock.specs.Says.{NewSays, IsSoundSays, ReadSays};
 use basis::Limit;
 use basis::Number;
 
@@ -32,7 +30,7 @@ impl Clock {
 
     // The clock of a session that opens with this reading.
     pub fn new(first: u64) -> Self
-        ensures opened { λ r. ⌜ r ≡ fresh first ⌝ }
+        ensures opened { λ r. ⌜ NewSays first r ⌝ }
     {
         Clock {
             first,
@@ -56,7 +54,7 @@ impl Clock {
 
     // Whether the limits and the time equation hold of these words.
     pub fn is_sound(self) -> bool
-        ensures sound { λ r. ⌜ r ≡ soundClock stepLength self ⌝ }
+        ensures sound { λ r. ⌜ IsSoundSays self r ⌝ }
     {
         if self.remainder >= Clock::LENGTH {
             return false;
@@ -75,7 +73,7 @@ impl Clock {
 
     // 14, 11, 12, or the clock after this reading with the number of steps due.
     pub fn read(self, reading: u64) -> Reading
-        ensures read { λ r. ⌜ answerOf r ≡ answer (readingOrder stepLength self reading) ⌝ }
+        ensures read { λ r. ⌜ ReadSays self reading r ⌝ }
     {
         if !self.is_sound() {
             return Reading::Refused(Number::FAULT);

@@ -12,7 +12,7 @@ use Rattle.record.specs.declared.bytes.Record.{Record}
 use Rattle.record.proofs.OneRecord.{Within, reads}
 use Rattle.record.proofs.Placing.{ByRow, Placed, same, other, late, full, broken, takes}
 use Rattle.record.proofs.Placing.{told, is-held, is-taken}
-use Rattle.clock.specs.Reading.{Given, readingOrder}
+use Rattle.clock.specs.Reading.{Given, clockOrder}
 use Rattle.course.specs.World.{World}
 use Rattle.course.specs.Session.{Session}
 use Rattle.course.specs.Calls.{Call, reading, delivery, Outcome, read, taken, held}
@@ -60,7 +60,7 @@ module _ {world : World} (s : Session world) where
 
   -- A reading is answered as the clock answers.
   abbrev pub byClock : ℕ → Answer Given
-  byClock t = answer (readingOrder (world .length) (s .clock) t)
+  byClock t = answer (clockOrder (world .length) (s .clock) t)
 
   pub is-unread : (t : ℕ) {number : ℕ} → byClock t ≡ refused number
       → answerTo s (reading t) ≡ refused number

@@ -6,7 +6,7 @@ use Rattle.record.specs.Bytes.{recordOf, bytesOf, wellFormed, limitsOrder, read
 use Rattle.record.specs.Log.{precedes}
 use Rattle.record.specs.Held.{leverAt, putIn}
 use Rattle.clock.specs.Clock.{due, ticked, soundClock}
-use Rattle.clock.specs.Reading.{readingOrder}
+use Rattle.clock.specs.Reading.{clockOrder}
 use Rattle.course.specs.World.{Lawful, after}
 use Rattle.course.specs.Session.{steps, withLog}
 use Rattle.course.specs.Calls.{orderOf, next, run}
@@ -28,7 +28,7 @@ sized = record { start = refl; step = λ levers state e. refl }
 pub example : Example
 unfolding after answer andThen orderOf next run steps withLog
     readOrder limitsOrder wellFormed recordOf bytesOf precedes leverAt putIn
-    readingOrder soundClock due ticked
+    clockOrder soundClock due ticked
 example =
     record {
       lawful = lawful;

@@ -16,7 +16,7 @@ use Rattle.record.specs.Place.{AtPlace}
 use Rattle.record.specs.Part.{earlier}
 use Rattle.record.specs.declared.bytes.Record.{Record}
 use Rattle.clock.specs.Clock.{soundClock}
-use Rattle.clock.specs.Reading.{Given, readingOrder}
+use Rattle.clock.specs.Reading.{Given, clockOrder}
 use Rattle.clock.specs.History.{clockAfter, acceptedAfter, lastOf, NoneRefused, NoLongGap}
 use Rattle.clock.specs.Statements.{FromOpening}
 use Rattle.course.specs.World.{World, Lawful, after, rowsAfter}
@@ -138,11 +138,11 @@ pub record Reach (world : World) : Type 0 where
 pub record ExactlyWhen {world : World} (s : Session world) : Type 0 where
   -- A reading is refused where the clock refuses it, with the clock's number;
   pub unread : (t number : ℕ)
-      → answer (readingOrder (world .length) (s .clock) t) ≡ refused number
+      → answer (clockOrder (world .length) (s .clock) t) ≡ refused number
       → answerTo s (reading t) ≡ refused number
   -- otherwise the steps that the clock gives are made.
   pub reads : (t : ℕ) (given : Given)
-      → answer (readingOrder (world .length) (s .clock) t) ≡ accepted given
+      → answer (clockOrder (world .length) (s .clock) t) ≡ accepted given
       → answerTo s (reading t) ≡ accepted (read (readOn s given))
   -- A delivery is refused where rules 2 to 5 refuse its bytes, with their number;
   pub malformed : (bytes : List ℕ) (number : ℕ)

@@ -1,40 +1,46 @@
 -- Demand 3, 'sessions opened on one world, each call given what the last one left', at the words.
 -- Digest and shown place change nothing, and replay only a state buffer of its own: they are no
 -- calls here.
-use Prim.Native.Nat.{ℕ}
+use Prim.Native.Nat.{ℕ, _*_}
 use mathlib.Core.Path.{_≡_}
 use mathlib.Core.List.{List, [], _∷_}
 use lib.IntN.{ℤ}
+use lib.ListN.{take}
 use Rattle.basis.specs.Order.{Answer, refused, accepted, answer}
 use Rattle.record.specs.Log.{records}
 use Rattle.record.specs.declared.bytes.Record.{Record}
 use Rattle.fleet.specs.State.{World}
 use Rattle.course.specs.Calls.{Call, reading, delivery}
 use Rattle.session.specs.declared.Session.{Session}
-use Rattle.session.specs.Lent.{Lent, lent, Made, tells}
+use Rattle.session.specs.Lent.{Lent, lent, Made, made, tells}
 use Rattle.session.specs.Calls.{openOrder, readingOrder, deliverOrder, Delivery}
 
--- What is handed from call to call: the session (`.result`), and state, rows and log as they stand.
+-- What is handed from call to call: the session, and state, rows and log as they stand.
 abbrev pub Handed : Type 0
 Handed = Made Session
+
+-- The session of it.
+abbrev pub sessionIn : Handed → Session
+sessionIn h = h .result
 
 -- All that a call is lent: the world's cells and boxes, and the buffers as they stand.
 abbrev pub lentIn : World → Handed → Lent
 lentIn world h = lent (world .cells) (world .boxes) (h .state) (h .rows) (h .log)
 
--- What an answer hands on, as in `leaves`: its session and what it made; a refusal all as it was.
+-- What an answer hands on: an accepted one its session and what it made, a refusal all as it was. So
+-- a delivery in h that is answered 7 hands on h, and one that is taken the new buffers and session.
 abbrev pub handsOn : {A : Type 0} → (A → Session) → Handed → Answer (Made A) → Handed
-handsOn sessionOf h (accepted m) = tells sessionOf m
-handsOn sessionOf h (refused number) = h
+handsOn itsSession h (accepted m) = tells itsSession m
+handsOn itsSession h (refused number) = h
 
 -- What a delivery of these bytes is answered.
 abbrev pub deliveryAnswer : World → Handed → List ℕ → Answer (Made Delivery)
-deliveryAnswer world h bytes = answer (deliverOrder (h .result) (lentIn world h) bytes)
+deliveryAnswer world h bytes = answer (deliverOrder (sessionIn h) (lentIn world h) bytes)
 
 -- What a call hands on.
 unfoldable pub next : World → Handed → Call → Handed
 next world h (reading t) =
-    handsOn (λ session. session) h (answer (readingOrder (h .result) (lentIn world h) t))
+    handsOn (λ session. session) h (answer (readingOrder (sessionIn h) (lentIn world h) t))
 next world h (delivery bytes) = handsOn (λ d. d .session) h (deliveryAnswer world h bytes)
 
 -- 'each call given what the last one left'
@@ -58,8 +64,17 @@ pub record Reached (world : World) (first : ℕ) (calls : List Call) (h : Handed
 
 -- 'the number of steps made, n'
 abbrev pub stepsMade : Handed → ℕ
-stepsMade h = h .result .clock .steps
+stepsMade h = sessionIn h .clock .steps
 
 -- 'the records held'
 abbrev pub heldBy : Handed → List Record
-heldBy h = records (h .result .held) (h .log)
+heldBy h = records (sessionIn h .held) (h .log)
+
+-- 'only the held part of a buffer is given': eight bytes for each record held.
+abbrev pub heldPart : Handed → List ℕ
+heldPart h = take (8 * sessionIn h .held) (h .log)
+
+-- A delivery is answered by this number, and all is as it was.
+abbrev pub answered : ℕ → Handed → Made Delivery
+answered number h =
+    made (record { number = number; session = sessionIn h }) (h .state) (h .rows) (h .log)

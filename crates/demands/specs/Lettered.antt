@@ -7,7 +7,7 @@ use Rattle.basis.specs.Numbers.{mostCarriers, stepLength}
 use Rattle.basis.specs.Order.{Answer, accepted, answer}
 use Rattle.record.specs.Bytes.{bytesOf, readOrder, writeOrder}
 use Rattle.record.specs.declared.bytes.Record.{Record}
-use Rattle.clock.specs.Reading.{Given, readingOrder}
+use Rattle.clock.specs.Reading.{Given, clockOrder}
 use Rattle.clock.specs.Examples.{clockAt}
 use Rattle.yard.specs.declared.world.Yard.{Yard}
 use Rattle.yard.specs.declared.carrier.Carrier.{Carrier}
@@ -23,7 +23,7 @@ use Rattle.fleet.specs.Examples.{practice}
 -- The answer to a reading with this gap, where no step was made yet and this is the remainder.
 abbrev pub answerAfter : ℕ → ℕ → Answer Given
 answerAfter remainder gap =
-    answer (readingOrder stepLength (clockAt remainder 0 remainder 0) (remainder + gap))
+    answer (clockOrder stepLength (clockAt remainder 0 remainder 0) (remainder + gap))
 
 -- It is accepted; then the last reading, the steps due, the remainder and the cut time are these.
 abbrev pub makes : ℕ → ℕ → ℕ → ℕ → Answer Given

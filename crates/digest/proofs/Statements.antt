@@ -1,8 +1,9 @@
 -- The statements of specs/Statements.antt, proved.
 use Prim.Native.Nat.{ℕ}
-use mathlib.Core.Path.{refl, ap}
+use mathlib.Core.Path.{_≡_, refl, ap}
 use lib.Dec.{lit<}
 use Rattle.basis.proofs.Order.{one-outcome}
+use Rattle.digest.specs.declared.Digest.{Digest}
 use Rattle.digest.specs.Fnv.{START}
 use Rattle.digest.specs.Statements.{Fnv1a, WordBytes, Determined}
 use Rattle.digest.proofs.Fnv.{low-byte, below, continued}
@@ -25,6 +26,16 @@ wordBytes =
       minusOne = refl;
     }
 
+-- No two digests have one value.
+one-value : (a b : Digest) → a .value ≡ b .value → a ≡ b
+one-value a b e = ap (λ (n : ℕ). record { value = n }) e
+
 pub determined : Determined
 determined =
-    record { answer = λ number. one-outcome (λ a b e. ap (λ (n : ℕ). record { value = n }) e) }
+    record {
+      started = one-outcome one-value;
+      ofState = λ steps state. one-outcome one-value;
+      bytes = λ digest bytes. one-outcome one-value;
+      word = λ digest word. one-outcome one-value;
+      words = λ digest words. one-outcome one-value;
+    }

@@ -7,11 +7,12 @@ use lib.IntN.{ℤ, pos, negℤ}
 use lib.ListN.{length}
 use mir.Syntax.{w32}
 use mir.Val.{SFits, toZ}
-use Rattle.basis.specs.Order.{OneOutcome}
+use Rattle.basis.specs.Order.{Determines}
 use Rattle.basis.specs.LittleEndian.{valueOf, Bytes}
 use Rattle.digest.specs.declared.Digest.{Digest}
 use Rattle.digest.specs.Fnv.{fnv, digestOf}
 use Rattle.digest.specs.Words.{wordBytes, bytesOfWords}
+use Rattle.digest.specs.Says.{NewSays, OfStateSays, BytesSays, WordSays, WordsSays}
 
 -- 'The digest is FNV-1a, 32 bits'.
 pub record Fnv1a : Type 0 where
@@ -35,8 +36,15 @@ pub record WordBytes : Type 0 where
   -- The bytes of -1 are 255, four times.
   pub minusOne : wordBytes (negℤ (pos 1)) ≡ 255 ∷ 255 ∷ 255 ∷ 255 ∷ []
 
--- 'any two outcomes allowed by it coincide', for the contract of each public entry: each says which
--- number the answer's value is.
+-- 'any two outcomes allowed by it coincide', for the contract of each public entry.
 pub record Determined : Type 0 where
-  -- `Digest::new`, `Digest::of_state`, `Digest::bytes`, `Digest::word`, `Digest::words`
-  pub answer : (number : ℕ) → OneOutcome (λ (digest : Digest). digest .value) number
+  -- `Digest::new`
+  pub started : Determines (NewSays)
+  -- `Digest::of_state`
+  pub ofState : (steps : ℕ) (state : List ℤ) → Determines (OfStateSays steps state)
+  -- `Digest::bytes`
+  pub bytes : (digest : Digest) (bytes : List ℕ) → Determines (BytesSays digest bytes)
+  -- `Digest::word`
+  pub word : (digest : Digest) (word : ℕ) → Determines (WordSays digest word)
+  -- `Digest::words`
+  pub words : (digest : Digest) (words : List ℤ) → Determines (WordsSays digest words)

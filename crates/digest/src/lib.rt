@@ -1,9 +1,9 @@
 // Document 01, 'Digest and shown place': FNV-1a of 32 bits, over bytes and over words. A digest
 // goes in by value and comes back, so that it can be continued over what follows.
 ghost use mathlib.Core.Path.{_≡_};
-ghost use Rattle.basis.specs.LittleEndian.{littleEndian};
-ghost use Rattle.digest.specs.Fnv.{START, withByte, fnv, digestOf};
-ghost use Rattle.digest.specs.Words.{twosComplement, bytesOfWords, stateBytes};
+ghost use Rattle.digest.specs.Fnv.{withByte};
+ghost use Rattle.digest.specs.Words.{twosComplement};
+ghost use Rattle.digest.specs.Says.{NewSays, OfStateSays, BytesSays, WordSays, WordsSays};
 
 pub struct Digest {
     pub value: u32,
@@ -19,21 +19,21 @@ impl Digest {
 
     // The digest of no bytes, to be continued.
     pub fn new() -> Self
-        ensures started { λ r. ⌜ r .value ≡ START ⌝ }
+        ensures started { λ r. ⌜ NewSays r ⌝ }
     {
         Self { value: Self::START }
     }
 
     // The digest of a session: the steps made, then each state word.
     pub fn of_state(steps: u32, state: &[i32]) -> Self
-        ensures digested { λ r. ⌜ r .value ≡ digestOf (stateBytes steps (now (state .entry))) ⌝ }
+        ensures digested { λ r. ⌜ OfStateSays steps (now (state .entry)) r ⌝ }
     {
         Self::new().word(steps).words(state)
     }
 
     // Continued over any bytes.
     pub fn bytes(self, bytes: &[u8]) -> Self
-        ensures continued { λ r. ⌜ r .value ≡ fnv (self .value) (now (bytes .entry)) ⌝ }
+        ensures continued { λ r. ⌜ BytesSays self (now (bytes .entry)) r ⌝ }
     {
         let mut digest = self;
         let mut i = 0;
@@ -46,7 +46,7 @@ impl Digest {
 
     // Continued over one u32, little-endian.
     pub fn word(self, word: u32) -> Self
-        ensures continued { λ r. ⌜ r .value ≡ fnv (self .value) (littleEndian 4 word) ⌝ }
+        ensures continued { λ r. ⌜ WordSays self word r ⌝ }
     {
         let first = (word % 256) as u8;
         let second = (word / 256 % 256) as u8;
@@ -57,8 +57,7 @@ impl Digest {
 
     // Continued over i32 words, two's complement, little-endian.
     pub fn words(self, words: &[i32]) -> Self
-        ensures continued { λ r. ⌜
-            r .value ≡ fnv (self .value) (bytesOfWords (now (words .entry))) ⌝ }
+        ensures continued { λ r. ⌜ WordsSays self (now (words .entry)) r ⌝ }
     {
         let mut digest = self;
         let mut i = 0;

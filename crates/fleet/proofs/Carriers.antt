@@ -1,7 +1,7 @@
 -- One carrier of a state: what is put in is got out, the others stay, and the state rule is kept.
 use Prim.Native.Nat.{ℕ, zero, suc, _+_, _*_, _<_, _≤_}
 use mathlib.Core.Path.{_≡_, refl, _∙_}
-use mathlib.Core.Logic.{_≢_}
+use mathlib.Core.Logic.{_↔_, _≢_, Iff·trans}
 use mathlib.Core.List.{List}
 use mathlib.Core.Option.{Option, some}
 use mathlib.Core.Bool.{Bool, true, false, cond, _&&_}
@@ -19,10 +19,12 @@ use Rattle.yard.specs.declared.carrier.Held.{Held}
 use Rattle.yard.specs.World.{sizeOf}
 use Rattle.yard.specs.Free.{free}
 use Rattle.yard.specs.Step.{LeverFits, step, soundCarrier}
-use Rattle.yard.proofs.Every.{all-pass, passes}
-use Rattle.yard.proofs.Soundness.{good-of, of-good, step-sound}
+use Rattle.yard.proofs.Every.{all-pass, passes, each as each-says}
+use Rattle.yard.proofs.Squares.{free-at}
+use Rattle.yard.proofs.Soundness.{good-of, of-good, rule, step-sound}
 use Rattle.fleet.specs.State.{World, carrier, wordsOf, put, freeFor, soundState}
 use Rattle.fleet.specs.Step.{stepOne, stepTo, stepAll, stepAt, heldOf}
+use Rattle.fleet.specs.Facts.{CarrierSound, StateSound}
 use Rattle.fleet.specs.Fits.{StateFits}
 use Rattle.fleet.specs.Statements.{EachFree}
 use Rattle.fleet.proofs.Words.{same-words, carrier-is, length-put}
@@ -56,6 +58,22 @@ pub free-as-yard : (world : World) (i : ℕ) (state : List ℤ) (x y : ℤ)
     → freeFor world i state x y ≡ free (world .yard) (world .cells) (sizeOf (world .boxes) i) x y
 unfolding freeFor
 free-as-yard world i state x y = refl
+
+-- The state rule, as facts of each carrier.
+pub state-sound : (world : World) (state : List ℤ)
+    → (soundState world state ≡ true) ↔ StateSound world state
+unfolding soundState freeFor
+state-sound world state = each-says _ (world .yard .b) one
+  where
+    one : (i : ℕ) → (soundCarrier (freeFor world i state) (carrier i state) ≡ true)
+        ↔ CarrierSound world i (carrier i state)
+    one i =
+        let c = carrier i state in
+        let f = free-at (world .yard) (world .cells) (sizeOf (world .boxes) i) (c .x) (c .y) in
+        Iff·trans (rule (freeFor world i state) c) (
+          λ (free, u, v, lever). record { free = f .0 free; u = u; v = v; lever = lever },
+          λ g. (f .1 (g .free), g .u, g .v, g .lever),
+        )
 
 -- Where carrier i is free its own words play no part; put at a place that is free for it, it leaves
 -- every carrier free.

@@ -1,13 +1,11 @@
 -- The statements of specs/Statements.antt, proved.
 use Rattle.basis.proofs.Order.{one-result}
 use Rattle.record.proofs.Logs.{all-within}
-use Rattle.yard.proofs.Every.{passes, all-pass}
-use Rattle.fleet.specs.State.{soundState}
 use Rattle.fleet.specs.Statements.{Words, FreeFor, Start, StateRule, OneStep, Runs, SavedRows}
 use Rattle.fleet.specs.Statements.{Determined, GoingBack}
 use Rattle.fleet.proofs.Words.{only-carriers, length-put, length-start}
 use Rattle.fleet.proofs.Carriers.{carrier-put, carrier-other, all-keeps, step-keeps}
-use Rattle.fleet.proofs.Carriers.{free-as-yard, free-own, free-stays}
+use Rattle.fleet.proofs.Carriers.{free-as-yard, free-own, free-stays, state-sound}
 use Rattle.fleet.proofs.Starts.{carrier-start, start-sound}
 use Rattle.fleet.proofs.Steps.{each-moved, same-all}
 use Rattle.fleet.proofs.Joined.{joined, joined-saving, saving-state, run-keeps}
@@ -44,8 +42,7 @@ start =
     }
 
 pub stateRule : StateRule
-unfolding soundState
-stateRule = record { means = λ world state. (passes _ _, all-pass _ _) }
+stateRule = record { means = state-sound }
 
 pub oneStep : OneStep
 oneStep =

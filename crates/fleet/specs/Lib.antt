@@ -2,14 +2,18 @@
 --   State       the words of a carrier, in and out; where each is free; the state rule
 --   Step        one step of all carriers in number order, under the levers held at it
 --   Run         steps one after the other, without saved rows and with them
+--   Facts       the state rule as plain facts
 --   Fits        what the functions over a world, a log and the buffers are given
 --   Examples    the practice yard, which fits what the functions are given
+--   Says        the contract of the one public entry, by name
 --   Statements  what is claimed of these; proofs/Statements.antt has a proof of each
 --   Cursor      for contracts of parts only: where the cursor of a step goes
 pub mod State
 pub mod Step
 pub mod Run
+pub mod Facts
 pub mod Fits
 pub mod Examples
+pub mod Says
 pub mod Statements
 pub mod Cursor

@@ -8,7 +8,7 @@ use mathlib.Core.Option.{Option}
 use lib.IntN.{ℤ, pos}
 use lib.ListN.{length, replicate}
 use Rattle.basis.specs.Numbers.{rowCount}
-use Rattle.basis.specs.Order.{OneResult}
+use Rattle.basis.specs.Order.{Determines}
 use Rattle.record.specs.declared.bytes.Record.{Record}
 use Rattle.record.specs.Log.{records}
 use Rattle.record.specs.Held.{leverAt}
@@ -16,17 +16,19 @@ use Rattle.yard.specs.declared.carrier.Carrier.{Carrier}
 use Rattle.yard.specs.World.{word, sizeOf}
 use Rattle.yard.specs.Free.{free}
 use Rattle.yard.specs.Rule9.{startsHold}
-use Rattle.yard.specs.Step.{LeverFits, atRest, step, soundCarrier}
+use Rattle.yard.specs.Step.{LeverFits, atRest, step}
 use Rattle.fleet.specs.State.{World, carrierWords, stateWords, carrier, put, freeFor}
 use Rattle.fleet.specs.State.{soundState, startState}
 use Rattle.fleet.specs.Step.{heldOf, stepTo, stepAll, stepAt}
 use Rattle.fleet.specs.Run.{Course, run, runSaving, rowOf, goBack}
+use Rattle.fleet.specs.Facts.{StateSound}
 use Rattle.fleet.specs.Fits.{LogFits, StateFits, RowsFit}
+use Rattle.fleet.specs.Says.{ClearRowsSays}
 
 -- 'any two outcomes allowed by it coincide', for the contract of the one public entry.
 pub record Determined : Type 0 where
   -- `clear_rows`
-  pub cleared : (rows : List ℤ) → OneResult (replicate (length rows) (pos 0))
+  pub cleared : (before : List ℤ) → Determines (ClearRowsSays before)
 
 -- 'five i32 words for each carrier, in carrier order': a carrier put in its place.
 pub record Words : Type 0 where
@@ -82,11 +84,9 @@ pub record Start : Type 0 where
 
 -- 'each carrier of the current state free, speeds within 200 either way, lever 0 to 9'
 pub record StateRule : Type 0 where
-  -- A state passes if and only if each of its carriers does; `Step.rule` of `yard` reads one.
+  -- A state passes if and only if each of its carriers does.
   pub means : (world : World) (state : List ℤ)
-      → (soundState world state ≡ true)
-      ↔ ((i : ℕ) → i < world .yard .b
-      → soundCarrier (freeFor world i state) (carrier i state) ≡ true)
+      → (soundState world state ≡ true) ↔ StateSound world state
 
 -- 'One step' of all carriers.
 pub record OneStep : Type 0 where

@@ -15,7 +15,7 @@ use Rattle.record.specs.Bytes.{recordOf, wellFormed, limitsOrder, readOrder}
 use Rattle.record.specs.Held.{bufferSize}
 use Rattle.record.specs.Log.{precedes, soundLog}
 use Rattle.yard.specs.Free.{wall, share, covers, noWall, free}
-use Rattle.yard.specs.Levers.{pushOf, cut, brake, newSpeed}
+use Rattle.yard.specs.Levers.{pushOf, cutSpeed, brake, newSpeed}
 use Rattle.yard.specs.Ranges.{every}
 use Rattle.yard.specs.Slide.{toward, clearOn, walk, distance, slide}
 use Rattle.yard.specs.Step.{step}
@@ -83,6 +83,6 @@ program =
 pub examples : Examples
 unfolding programOrder answer soundLog readOrder limitsOrder wellFormed recordOf precedes stepsPast
     run stepAll stepTo stepOne carrier wordsOf put freeFor startTo leverAt sizeOf
-    step newSpeed pushOf cut brake slide distance walk clearOn toward free noWall covers share wall
+    step newSpeed pushOf cutSpeed brake slide distance walk clearOn toward free noWall covers share wall
     every decimalTo wordText wordsText linesOf
 examples = record { brake = refl; empty = refl; refused = refl }

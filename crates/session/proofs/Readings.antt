@@ -8,7 +8,7 @@ use lib.IntN.{ℤ}
 use Rattle.basis.specs.Numbers.{mostSteps, stepLength}
 use Rattle.basis.specs.Order.{answer, refused, accepted}
 use Rattle.basis.proofs.Order.{passes, gives, stops, goes-on}
-use Rattle.clock.specs.Reading.{Given, readingOrder as clockOrder}
+use Rattle.clock.specs.Reading.{Given, clockOrder}
 use Rattle.clock.proofs.Readings.{exactly-given}
 use Rattle.fleet.specs.Run.{Course, courseOf, runSaving}
 use Rattle.session.specs.declared.Session.{Session}

@@ -40,13 +40,17 @@ pub record Made (A : Type 0) : Type 0 where
 abbrev pub made : {A : Type 0} → A → List ℤ → List ℤ → List ℕ → Made A
 made result state rows log = record { result = result; state = state; rows = rows; log = log }
 
+-- This is answered, and 'all lent bytes and words are as before'.
+abbrev pub asBefore : {A : Type 0} → A → Lent → Made A
+asBefore result l = made result (l .state) (l .rows) (l .log)
+
 -- The same buffers, with the result as `says` reads it.
 abbrev pub tells : {A C : Type 0} → (C → A) → Made C → Made A
 tells says m = made (says (m .result)) (m .state) (m .rows) (m .log)
 
 -- 'a refusal changes no session and no buffer'; an accepted call leaves what it makes.
 abbrev pub leaves : {A : Type 0} → Lent → Answer (Made A) → Made (Answer A)
-leaves l (refused number) = made (refused number) (l .state) (l .rows) (l .log)
+leaves l (refused number) = asBefore (refused number) l
 leaves l (accepted m) = tells accepted m
 
 -- What a call that may change one slice alone answers, and what it leaves there.

@@ -15,7 +15,7 @@ use Rattle.basis.specs.Numbers.{stepLength}
 use Rattle.basis.specs.Order.{Answer, refused}
 use Rattle.basis.proofs.Order.{one-outcome, one-result}
 use Rattle.shown.specs.Blend.{whole, blendOf}
-use Rattle.shown.specs.Answer.{answerOf}
+use Rattle.shown.specs.Answer.{shownAnswer}
 use Rattle.shown.specs.Statements.{Determined, Between, ShownPlace, Examples}
 use Rattle.shown.specs.declared.Place.{Place}
 use Rattle.shown.specs.declared.Shown.{Shown}
@@ -25,7 +25,7 @@ use Rattle.shown.proofs.Between.{most, start, rest, between, no-nan}
 number-of : {n m : ℕ} → _≡_ {A = Answer Place} (refused n) (refused m) → n ≡ m
 number-of e = cc
 
-same-answer : (a b : Shown) → answerOf a ≡ answerOf b → a ≡ b
+same-answer : (a b : Shown) → shownAnswer a ≡ shownAnswer b → a ≡ b
 same-answer (At p) (At q) e = let same : p ≡ q = cc in ap At same
 same-answer (At p) (Refused n) e = cc
 same-answer (Refused n) (At q) e = cc
@@ -78,4 +78,5 @@ shownPlace =
 
 pub examples : Examples
 unfolding blendOf ofInt add sub mul div le toBits
-examples = record { halfway = refl; outside = refl; rounded = refl; zero = refl }
+examples = 
+    record { halfway = refl; below = refl; above = refl; rounded = refl; zero = refl }

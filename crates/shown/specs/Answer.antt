@@ -13,6 +13,6 @@ shownPlace length px py cx cy remainder =
     record { x = blendOf length px cx remainder; y = blendOf length py cy remainder }
 
 -- The place or the number that each case of the answer stands for.
-abbrev pub answerOf : Shown → Answer Place
-answerOf (At place) = accepted place
-answerOf (Refused number) = refused number
+abbrev pub shownAnswer : Shown → Answer Place
+shownAnswer (At place) = accepted place
+shownAnswer (Refused number) = refused number

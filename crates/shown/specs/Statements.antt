@@ -8,20 +8,21 @@ use lib.Ieee.{Float, binary64, toSigned, toBits, isNan}
 use mir.Syntax.{w32}
 use mir.Val.{Fits, SFits}
 use Rattle.basis.specs.Numbers.{stepLength}
-use Rattle.basis.specs.Order.{Answer, OneOutcome, OneResult}
+use Rattle.basis.specs.Order.{Answer, Determines}
 use Rattle.shown.specs.Blend.{whole, blendOf, isBetween}
-use Rattle.shown.specs.Answer.{shownPlace, answerOf}
+use Rattle.shown.specs.Answer.{shownAnswer}
+use Rattle.shown.specs.Says.{BlendSays, PlaceSays}
 use Rattle.shown.specs.declared.Place.{Place}
+use Rattle.shown.specs.declared.Shown.{Shown}
 
 -- 'any two outcomes allowed by it coincide', for the contract of each public entry.
 pub record Determined : Type 0 where
   -- `blend`
-  pub blend : (p c : ℤ) (remainder : ℕ) → OneResult (blendOf stepLength p c remainder)
+  pub blend : (p c : ℤ) (remainder : ℕ) → Determines (BlendSays p c remainder)
   -- `Place::shown`
-  pub shown : (px py cx cy : ℤ) (remainder : ℕ)
-      → OneResult (shownPlace stepLength px py cx cy remainder)
+  pub shown : (px py cx cy : ℤ) (remainder : ℕ) → Determines (PlaceSays px py cx cy remainder)
   -- No two answers stand for the same place or number.
-  pub answer : (this : Answer Place) → OneOutcome answerOf this
+  pub answer : (this : Answer Place) → Determines (λ (out : Shown). shownAnswer out ≡ this)
 
 -- One coordinate, shown with this remainder. Floats are equal bit for bit: the sign of a zero
 -- counts.
@@ -51,8 +52,9 @@ pub record ShownPlace : Type 0 where
 pub record Examples : Type 0 where
   -- 'p 12, c 36, remainder 10,000: shown 24.0.'
   pub halfway : blendOf stepLength (pos 12) (pos 36) 10000 ≡ whole (pos 24)
-  -- 37 doesn't lie between 12 and 36.
-  pub outside : isBetween (pos 12) (pos 36) (whole (pos 37)) ≡ false
+  -- Neither 11 nor 37 lies between 12 and 36.
+  pub below : isBetween (pos 12) (pos 36) (whole (pos 11)) ≡ false
+  pub above : isBetween (pos 12) (pos 36) (whole (pos 37)) ≡ false
   -- From 0 to 1, at remainder 1: the f64 nearest to 0.00005.
   pub rounded : toBits binary64 (blendOf stepLength (pos 0) (pos 1) 1) ≡ 0x3f0a_36e2_eb1c_432d
   -- From 0 to -5, at remainder 0: 0.0 and not -0.0.

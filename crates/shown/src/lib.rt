@@ -1,9 +1,6 @@
 // The shown place of a carrier, between its previous and its present place.
 // Document 01, 'Digest and shown place'.
-ghost use mathlib.Core.Path.{_≡_};
-ghost use Rattle.basis.specs.Numbers.{stepLength};
-ghost use Rattle.shown.specs.Blend.{blendOf};
-ghost use Rattle.shown.specs.Answer.{shownPlace};
+ghost use Rattle.shown.specs.Says.{BlendSays, PlaceSays};
 
 pub struct Place {
     pub x: f64,
@@ -18,7 +15,7 @@ pub enum Shown {
 
 // One coordinate, `remainder` microseconds after the last step.
 pub fn blend(previous: i32, present: i32, remainder: u32) -> f64
-    ensures blended { λ r. ⌜ r ≡ blendOf stepLength previous present remainder ⌝ }
+    ensures blended { λ r. ⌜ BlendSays previous present remainder r ⌝ }
 {
     let p = previous as f64;
     let c = present as f64;
@@ -32,7 +29,7 @@ impl Place {
 
     // Of a carrier that was at (px, py) before the last step and is at (cx, cy) after it.
     pub fn shown(px: i32, py: i32, cx: i32, cy: i32, remainder: u32) -> Place
-        ensures placed { λ r. ⌜ r ≡ shownPlace stepLength px py cx cy remainder ⌝ }
+        ensures placed { λ r. ⌜ PlaceSays px py cx cy remainder r ⌝ }
     {
         let x = blend(px, cx, remainder);
         let y = blend(py, cy, remainder);

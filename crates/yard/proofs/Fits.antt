@@ -4,7 +4,7 @@ use Prim.Native.Nat.{ℕ, _*_, _≤_, _<_}
 use mathlib.Core.Path.{_≡_, refl}
 use mathlib.Core.Bool.{true}
 use mathlib.Core.List.{List}
-use mathlib.Core.Logic.{_↔_, Iff·rfl}
+use mathlib.Core.Logic.{_↔_, Iff·trans}
 use native.Mathlib.Omega.{arith}
 use lib.IntN.{ℤ, pos, negsuc}
 use lib.ListN.{getD, length}
@@ -16,8 +16,9 @@ use Rattle.yard.specs.World.{word, sizeOf, CellsFit, BoxesFit, SizeFits}
 use Rattle.yard.specs.Free.{free}
 use Rattle.yard.specs.Rule9.{rangesHold, cellsHold, sizeHolds, sizesHold, startHolds}
 use Rattle.yard.specs.Rule9.{startsHold}
-use Rattle.yard.specs.Statements.{FromTo}
-use Rattle.yard.proofs.Every.{each}
+use Rattle.yard.specs.Facts.{InRange, CellsValid, FromTo, SizesValid, StartsFree}
+use Rattle.yard.proofs.Every.{passes, each}
+use Rattle.yard.proofs.Squares.{free-at}
 
 from-one : (n most : ℕ) → (fromOne n most ≡ true) ↔ ((1 ≤ n) × (n ≤ most))
 from-one n most = says-two (says-le 1 n) (says-le n most)
@@ -35,41 +36,37 @@ from-to low high (negsuc n) = (
 )
 
 -- Ranges, cells, sizes and starts, each both ways.
-pub ranges : (yard : Yard) → (rangesHold yard ≡ true)
-    ↔ (((1 ≤ yard .w) × (yard .w ≤ 64))
-    × ((1 ≤ yard .h) × (yard .h ≤ 64))
-    × ((1 ≤ yard .b) × (yard .b ≤ mostCarriers)))
+pub ranges : (yard : Yard) → (rangesHold yard ≡ true) ↔ InRange yard
 unfolding rangesHold
 ranges yard =
-    says-three (from-one (yard .w) 64) (from-one (yard .h) 64) (from-one (yard .b) mostCarriers)
+    Iff·trans
+    (says-three (from-one (yard .w) 64) (from-one (yard .h) 64) (from-one (yard .b) mostCarriers))
+    (λ (w, h, b). record { w = w; h = h; b = b }, λ f. (f .w, f .h, f .b))
 
-pub cells : (cells : List ℕ) → (cellsHold cells ≡ true)
-    ↔ ((i : ℕ) → i < length cells → getD cells i 0 ≤ 1)
+pub cells : (cells : List ℕ) → (cellsHold cells ≡ true) ↔ CellsValid cells
 unfolding cellsHold
 cells list = each _ (length list) (λ i. says-le (getD list i 0) 1)
 
-pub sizes : (yard : Yard) (boxes : List ℤ) → (sizesHold yard boxes ≡ true)
-    ↔ ((i : ℕ) → i < yard .b → FromTo 1 1024 (word boxes i 2) × FromTo 1 1024 (word boxes i 3))
+pub sizes : (yard : Yard) (boxes : List ℤ) → (sizesHold yard boxes ≡ true) ↔ SizesValid yard boxes
 unfolding sizesHold sizeHolds
 sizes yard boxes =
     each _ (yard .b)
     (λ i. says-two (from-to 1 1024 (word boxes i 2)) (from-to 1 1024 (word boxes i 3)))
 
-pub starts : (yard : Yard) (cells : List ℕ) (boxes : List ℤ) → (startsHold yard cells boxes ≡ true)
-    ↔ ((i : ℕ) → i < yard .b
-    → free yard cells (sizeOf boxes i) (word boxes i 0) (word boxes i 1) ≡ true)
+pub starts : (yard : Yard) (cells : List ℕ) (boxes : List ℤ)
+    → (startsHold yard cells boxes ≡ true) ↔ StartsFree yard cells boxes
 unfolding startsHold startHolds
-starts yard cells boxes = each _ (yard .b) (λ i. Iff·rfl)
+starts yard cells boxes = each _ (yard .b) (λ i. free-at yard cells _ _ _)
 
 -- Ranges and lengths fit the cells and the boxes.
 module _ (yard : Yard) (e : rangesHold yard ≡ true) where
   pub cells-fit : (cells : List ℕ) → length cells ≡ yard .w * yard .h → CellsFit yard cells
   cells-fit cells room =
       let within = ranges yard .0 e in
-      record { w = within .0 .1; h = within .1 .1; room = room }
+      record { w = within .w .1; h = within .h .1; room = room }
 
   pub boxes-fit : (boxes : List ℤ) → length boxes ≡ 4 * yard .b → BoxesFit yard boxes
-  boxes-fit boxes room = record { b = ranges yard .0 e .2 .1; room = room }
+  boxes-fit boxes room = record { b = ranges yard .0 e .b .1; room = room }
 
 -- Sizes that hold fit, and starts that hold are free.
 pub sizes-fit : (yard : Yard) (boxes : List ℤ) → sizesHold yard boxes ≡ true
@@ -82,4 +79,5 @@ sizes-fit yard boxes e i l =
 pub start-free : (yard : Yard) (cells : List ℕ) (boxes : List ℤ)
     → startsHold yard cells boxes ≡ true → (i : ℕ) → i < yard .b
     → free yard cells (sizeOf boxes i) (word boxes i 0) (word boxes i 1) ≡ true
-start-free yard cells boxes = starts yard cells boxes .0
+unfolding startsHold startHolds
+start-free yard cells boxes = passes _ (yard .b)

@@ -15,7 +15,7 @@ use Rattle.basis.proofs.Tests.{and-left, and-right}
 use Rattle.yard.specs.declared.levers.Axis.{Axis}
 use Rattle.yard.specs.declared.levers.Axis.the-variants.{X, Y}
 use Rattle.yard.specs.declared.levers.Push.{Push}
-use Rattle.yard.specs.Levers.{along, push, pushes, pushOf, cut, brake, newSpeed}
+use Rattle.yard.specs.Levers.{along, push, pushes, pushOf, cutSpeed, brake, newSpeed}
 use Rattle.yard.proofs.Cases.{of-cond}
 use Rattle.yard.proofs.Signed.{abs-neg, mag≤abs}
 
@@ -48,8 +48,8 @@ push-within Y lever =
     leb-true _ 12 (and-right (leb (natAbs (pushOf lever .x)) 12) _ (table lever))
 
 -- A speed that is cut is within 200.
-cut-within : (z : ℤ) → natAbs (cut z) ≤ 200
-unfolding cut
+cut-within : (z : ℤ) → natAbs (cutSpeed z) ≤ 200
+unfolding cutSpeed
 cut-within (pos n) =
     of-cond (λ z. natAbs z ≤ 200) (ltb 200 n) (λ e. omega arith)
     (λ e. omega (arith, ltb-false 200 n e))

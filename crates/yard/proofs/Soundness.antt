@@ -16,7 +16,7 @@ use Rattle.yard.specs.Ranges.{between}
 use Rattle.yard.specs.Levers.{newSpeed}
 use Rattle.yard.specs.Slide.{slide}
 use Rattle.yard.specs.Step.{leverAfter, LeverFits, atRest, step, soundCarrier}
-use Rattle.yard.specs.Statements.{FromTo}
+use Rattle.yard.specs.Facts.{FromTo}
 use Rattle.yard.proofs.Fits.{from-to}
 use Rattle.yard.proofs.Limits.{speed-within}
 use Rattle.yard.proofs.Walk.{slide-within, slide-x-free, slide-y-free}

@@ -3,11 +3,12 @@ use Prim.Native.Nat.{ℕ, _+_, _*_, _/_, _<_, _≤_, max, min}
 use mathlib.Core.Path.{_≡_, refl, _∙_}
 use mathlib.Core.Bool.{true, false, _&&_}
 use mathlib.Core.List.{List}
-use mathlib.Core.Logic.{⊎-elim, _↔_}
+use mathlib.Core.Logic.{⊎-elim, _↔_, _≢_}
 use native.Mathlib.Omega.{arith}
-use borrow.Author.Tests.{lt-ltb, ltb-true, le-leb, lt-leb, leb-true}
+use borrow.Author.Tests.{lt-ltb, ltb-true, le-leb, lt-leb, leb-true, eqb-false, ne-eqb}
 use lib.Dec.{leb}
 use lib.IntN.{ℤ, pos, negsuc, natAbs}
+use lib.ListN.{getD}
 use lib.Signed.{ltZ}
 use Rattle.basis.proofs.Tests.{never, and-both, and-left, and-right, not-left, not-right}
 use Rattle.yard.specs.declared.world.Yard.{Yard}
@@ -15,7 +16,7 @@ use Rattle.yard.specs.declared.world.Size.{Size}
 use Rattle.yard.specs.World.{CellsFit, SizeFits}
 use Rattle.yard.specs.Free.{wall, share, covers, noWall, free}
 use Rattle.yard.specs.Search.{InBlock, Open, blockOf}
-use Rattle.yard.specs.Statements.{Clear}
+use Rattle.yard.specs.Facts.{Clear, FreeAt}
 use Rattle.yard.proofs.Cases.{either, not-both, both-not}
 use Rattle.yard.proofs.Every.{all-pass, passes}
 
@@ -121,6 +122,12 @@ module _ (yard : Yard) (cells : List ℕ) (size : Size) (x y : ℕ) where
         ∙ ⊎-elim (λ p. never e (no-wall-at p column row (omega arith) (omega arith) under)) (λ p. p)
         (either (noWall yard cells size x y))
 
+  -- A cell is no wall where its byte isn't 1.
+  no-byte : (column row : ℕ)
+      → (wall yard cells column row ≡ false) ↔ (getD cells (row * yard .w + column) 0 ≢ 1)
+  unfolding wall
+  no-byte column row = (eqb-false _ _, ne-eqb _ _)
+
   -- Free is clear, both ways.
   free-clear : free yard cells size (pos x) (pos y) ≡ true → Clear yard cells size x y
   unfolding covers
@@ -130,8 +137,9 @@ module _ (yard : Yard) (cells : List ℕ) (size : Size) (x y : ℕ) where
         right = h .0;
         bottom = h .1;
         squares = λ p q xp px yq qy.
-            no-wall-at (h .2) (p / 256) (q / 256) (omega arith) (omega arith)
-            (and-both (unit-share x (size .w) p xp px) (unit-share y (size .h) q yq qy));
+            no-byte (p / 256) (q / 256) .0 (no-wall-at (h .2) (p / 256) (q / 256)
+            (omega arith) (omega arith)
+            (and-both (unit-share x (size .w) p xp px) (unit-share y (size .h) q yq qy)));
       }
 
   clear-free : Clear yard cells size x y → free yard cells size (pos x) (pos y) ≡ true
@@ -144,10 +152,8 @@ module _ (yard : Yard) (cells : List ℕ) (size : Size) (x y : ℕ) where
       let down = share y (size .h) (256 * row) 256 in
       let p = share-unit x (size .w) column (and-left across down e) in
       let q = share-unit y (size .h) row (and-right across down e) in
-      rw (p .2, q .2) at (c .squares (shared x column) (shared y row) (p .0) (p .1) (q .0) (q .1)))
-
-  pub reading : (free yard cells size (pos x) (pos y) ≡ true) ↔ Clear yard cells size x y
-  reading = (free-clear, clear-free)
+      no-byte column row .1
+      (rw (p .2, q .2) at (c .squares (shared x column) (shared y row) (p .0) (p .1) (q .0) (q .1))))
 
 -- Left of the yard and above it nothing is free.
 module _ (yard : Yard) (cells : List ℕ) (size : Size) where
@@ -159,6 +165,11 @@ module _ (yard : Yard) (cells : List ℕ) (size : Size) where
   unfolding free
   above (pos x) y = refl
   above (negsuc x) y = refl
+
+  pub free-at : (x y : ℤ) → (free yard cells size x y ≡ true) ↔ FreeAt yard cells size x y
+  free-at (pos x) (pos y) = (free-clear yard cells size x y, clear-free yard cells size x y)
+  free-at (pos x) (negsuc y) = (λ e. never e (above (pos x) y), λ f. absurd f)
+  free-at (negsuc x) y = (λ e. never e (left x y), λ f. absurd f)
 
   pub below-left : (x y : ℤ) → ltZ x (pos 0) ≡ true → free yard cells size x y ≡ false
   below-left (pos x) y e = absurd (omega (arith, ltb-true x 0 e))

@@ -5,12 +5,12 @@ use Rattle.yard.specs.Statements.{Determined, Free, Rule9, Every, Table,
 use Rattle.yard.proofs.Every.{passes, all-pass}
 use Rattle.yard.proofs.Fits.{ranges, cells, sizes, starts}
 use Rattle.yard.proofs.Limits.{push-within, speed-within}
-use Rattle.yard.proofs.Squares.{reading, left, above, near}
+use Rattle.yard.proofs.Squares.{free-at, near}
 use Rattle.yard.proofs.Walk.{walked, only}
 use Rattle.yard.proofs.Soundness.{rule, rest-sound, step-sound, step-same}
 
 pub free : Free
-free = record { means = reading; left = left; above = above; near = near }
+free = record { means = free-at; near = near }
 
 pub determined : Determined
 determined =

@@ -39,8 +39,8 @@ unfoldable pub pushOf : ℕ → Push
 pushOf lever = getD pushes lever (push (pos 0) (pos 0))
 
 -- 'cut to the range -200 to 200'
-unfoldable pub cut : ℤ → ℤ
-cut speed =
+unfoldable pub cutSpeed : ℤ → ℤ
+cutSpeed speed =
     cond (ltZ speed (minus 200)) (minus 200)
     (cond (ltZ (pos 200) speed) (pos 200) speed)
 
@@ -52,4 +52,4 @@ brake old = quotZ old (pos 2)
 unfoldable pub newSpeed : Axis → ℕ → ℤ → ℤ
 newSpeed axis lever old =
     cond (eqb lever 9) (brake old)
-    (cut (old +ℤ along axis (pushOf lever .x) (pushOf lever .y)))
+    (cutSpeed (old +ℤ along axis (pushOf lever .x) (pushOf lever .y)))

@@ -1,47 +1,32 @@
 -- What is claimed of the yard. proofs/Statements.antt proves each record whole.
-use Prim.Native.Nat.{ℕ, _+_, _*_, _/_, _≤_, _<_}
+use Prim.Native.Nat.{ℕ, _+_, _≤_, _<_}
 use mathlib.Core.Path.{_≡_}
 use mathlib.Core.Logic.{_↔_}
 use mathlib.Core.Bool.{Bool, true, false}
 use mathlib.Core.List.{List}
-use lib.IntN.{ℤ, pos, negsuc, natAbs}
-use lib.ListN.{getD, length}
-use Rattle.basis.specs.Numbers.{mostCarriers}
-use Rattle.basis.specs.Order.{OneResult}
+use lib.IntN.{ℤ, natAbs}
+use lib.ListN.{length}
+use Rattle.basis.specs.Order.{Determines}
 use Rattle.yard.specs.declared.world.Yard.{Yard}
 use Rattle.yard.specs.declared.world.Size.{Size}
 use Rattle.yard.specs.declared.levers.Axis.{Axis}
 use Rattle.yard.specs.declared.carrier.Carrier.{Carrier}
 use Rattle.yard.specs.declared.carrier.Held.{Held}
 use Rattle.yard.specs.Ranges.{every}
-use Rattle.yard.specs.World.{word, sizeOf, CellsFit}
-use Rattle.yard.specs.Free.{wall, free}
+use Rattle.yard.specs.World.{CellsFit}
+use Rattle.yard.specs.Free.{free}
 use Rattle.yard.specs.Rule9.{rangesHold, cellsHold, sizesHold, startsHold}
+use Rattle.yard.specs.Facts.{InRange, CellsValid, FromTo, SizesValid, FreeAt, StartsFree}
+use Rattle.yard.specs.Says.{RangesHoldSays, CellsHoldSays, MagnitudeSays}
 use Rattle.yard.specs.Levers.{along, pushes, pushOf, newSpeed}
 use Rattle.yard.specs.Slide.{clearOn, distance}
 use Rattle.yard.specs.Step.{LeverFits, atRest, step, soundCarrier}
 
--- The box at (x, y) ends in the yard, and no unit square of it lies in a wall cell.
-pub record Clear (yard : Yard) (cells : List ℕ) (size : Size) (x y : ℕ) : Type 0 where
-  -- 'x+w is at most 256·W'
-  pub right : x + size .w ≤ 256 * yard .w
-  -- 'y+h at most 256·H'
-  pub bottom : y + size .h ≤ 256 * yard .h
-  -- The cell of each unit square (p, q) of the box is no wall.
-  pub squares : (p q : ℕ) → x ≤ p → p < x + size .w → y ≤ q → q < y + size .h
-      → wall yard cells (p / 256) (q / 256) ≡ false
-
 -- 'The yard and its carriers': what free means.
 pub record Free : Type 0 where
-  -- Where x and y are at least 0: in the yard, touching allowed, no unit square in a wall cell.
-  pub means : (yard : Yard) (cells : List ℕ) (size : Size) (x y : ℕ)
-      → (free yard cells size (pos x) (pos y) ≡ true) ↔ Clear yard cells size x y
-  -- Left of the yard nothing is free.
-  pub left : (yard : Yard) (cells : List ℕ) (size : Size) (x : ℕ) (y : ℤ)
-      → free yard cells size (negsuc x) y ≡ false
-  -- Above the yard nothing is free.
-  pub above : (yard : Yard) (cells : List ℕ) (size : Size) (x : ℤ) (y : ℕ)
-      → free yard cells size x (negsuc y) ≡ false
+  -- In the yard, touching allowed, and no unit square of the box in a wall cell.
+  pub means : (yard : Yard) (cells : List ℕ) (size : Size) (x y : ℤ)
+      → (free yard cells size x y ≡ true) ↔ FreeAt yard cells size x y
   -- A place that is free is at most 16,384 units from 0, so no sum on it wraps.
   pub near : (yard : Yard) (cells : List ℕ) (size : Size) (x y : ℤ) → CellsFit yard cells
       → free yard cells size x y ≡ true → (natAbs x ≤ 16384) × (natAbs y ≤ 16384)
@@ -49,34 +34,19 @@ pub record Free : Type 0 where
 -- 'any two outcomes allowed by it coincide', for the contract of each public entry.
 pub record Determined : Type 0 where
   -- `ranges_hold`
-  pub ranges : (yard : Yard) → OneResult (rangesHold yard)
+  pub ranges : (yard : Yard) → Determines (RangesHoldSays yard)
   -- `cells_hold`
-  pub cells : (cells : List ℕ) → OneResult (cellsHold cells)
+  pub cells : (cells : List ℕ) → Determines (CellsHoldSays cells)
   -- `magnitude`
-  pub magnitude : (z : ℤ) → OneResult (natAbs z)
-
--- A word from low to high, ends allowed, where low is at least 0.
-abbrev pub FromTo : ℕ → ℕ → ℤ → Type 0
-FromTo low high z = (n : ℕ) × (z ≡ pos n) × (low ≤ n) × (n ≤ high)
+  pub magnitude : (z : ℤ) → Determines (MagnitudeSays z)
 
 -- Rule 9, part by part in their order: each test holds if and only if that part refuses nothing.
 pub record Rule9 : Type 0 where
-  -- No 'W, H or B out of range': 'each of W and H from 1 to 64', 'B carriers, 1 to 32'.
-  pub ranges : (yard : Yard) → (rangesHold yard ≡ true)
-      ↔ (((1 ≤ yard .w) × (yard .w ≤ 64))
-      × ((1 ≤ yard .h) × (yard .h ≤ 64))
-      × ((1 ≤ yard .b) × (yard .b ≤ mostCarriers)))
-  -- No 'cell byte above 1'.
-  pub cells : (cells : List ℕ) → (cellsHold cells ≡ true)
-      ↔ ((i : ℕ) → i < length cells → getD cells i 0 ≤ 1)
-  -- No 'size out of range': each carrier's w and h, 'each 1 to 1,024 units'.
-  pub sizes : (yard : Yard) (boxes : List ℤ) → (sizesHold yard boxes ≡ true)
-      ↔ ((i : ℕ) → i < yard .b → FromTo 1 1024 (word boxes i 2) × FromTo 1 1024 (word boxes i 3))
-  -- No 'start that isn't free': each carrier is free at its x and y.
+  pub ranges : (yard : Yard) → (rangesHold yard ≡ true) ↔ InRange yard
+  pub cells : (cells : List ℕ) → (cellsHold cells ≡ true) ↔ CellsValid cells
+  pub sizes : (yard : Yard) (boxes : List ℤ) → (sizesHold yard boxes ≡ true) ↔ SizesValid yard boxes
   pub starts : (yard : Yard) (cells : List ℕ) (boxes : List ℤ)
-      → (startsHold yard cells boxes ≡ true)
-      ↔ ((i : ℕ) → i < yard .b
-      → free yard cells (sizeOf boxes i) (word boxes i 0) (word boxes i 1) ≡ true)
+      → (startsHold yard cells boxes ≡ true) ↔ StartsFree yard cells boxes
 
 -- How a test of every number below n reads, in rule 9 and in `noWall`.
 pub record Every : Type 0 where

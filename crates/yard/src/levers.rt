@@ -2,7 +2,7 @@
 ghost use mathlib.Core.Path.{_≡_};
 ghost use Prim.Native.Nat.{_≤_, _<_};
 ghost use lib.IntN.{natAbs, _+ℤ_};
-ghost use Rattle.yard.specs.Levers.{along, pushOf, cut, brake, newSpeed};
+ghost use Rattle.yard.specs.Levers.{along, pushOf, cutSpeed, brake, newSpeed};
 
 pub enum Axis {
     X,
@@ -59,7 +59,7 @@ fn push_of(lever: usize) -> Push
 // 'old speed plus push, then cut'.
 fn pushed_speed(old: i32, push: i32) -> i32
     requires small { ⌜ (natAbs old ≤ 200) × (natAbs push ≤ 12) ⌝ }
-    ensures cut { λ r. ⌜ r ≡ cut (old +ℤ push) ⌝ }
+    ensures cut { λ r. ⌜ r ≡ cutSpeed (old +ℤ push) ⌝ }
 {
     let speed = old + push;
     if speed < Speed::LEAST {

@@ -5,8 +5,8 @@ ghost use Prim.Native.Nat.{_+_, _*_, _≤_, _<_};
 ghost use lib.ListN.{length};
 ghost use Rattle.yard.specs.Ranges.{fromOne};
 ghost use Rattle.yard.specs.World.{CellsFit, BoxesFit, SizeFits, sizeOf};
-ghost use Rattle.yard.specs.Rule9.{rangesHold, cellsHold, sizeHolds, sizesHold};
-ghost use Rattle.yard.specs.Rule9.{startHolds, startsHold};
+ghost use Rattle.yard.specs.Rule9.{sizeHolds, sizesHold, startHolds, startsHold};
+ghost use Rattle.yard.specs.Says.{RangesHoldSays, CellsHoldSays};
 use super::place::is_free;
 use super::words::is_between;
 use super::world::Size;
@@ -22,7 +22,7 @@ fn is_from_one(n: u32, most: u32) -> bool
 
 // W, H and B are in range.
 pub fn ranges_hold(yard: Yard) -> bool
-    ensures ranges { λ r. ⌜ r ≡ rangesHold yard ⌝ }
+    ensures ranges { λ r. ⌜ RangesHoldSays yard r ⌝ }
 {
     let w = yard.w;
     let h = yard.h;
@@ -38,7 +38,7 @@ pub fn ranges_hold(yard: Yard) -> bool
 
 // No cell byte is above 1.
 pub fn cells_hold(cells: &[u8]) -> bool
-    ensures cells { λ r. ⌜ r ≡ cellsHold (now (cells .entry)) ⌝ }
+    ensures cells { λ r. ⌜ CellsHoldSays (now (cells .entry)) r ⌝ }
 {
     for i in 0..cells.len() {
         if cells[i] > 1 {

@@ -1,11 +1,11 @@
 // i32 words, any of them: the magnitude, and whether one lies between two others.
 ghost use mathlib.Core.Path.{_≡_};
-ghost use lib.IntN.{natAbs};
 ghost use Rattle.yard.specs.Ranges.{between};
+ghost use Rattle.yard.specs.Says.{MagnitudeSays};
 
 // |z|, also of the least i32.
 pub fn magnitude(z: i32) -> usize
-    ensures size { λ r. ⌜ r ≡ natAbs z ⌝ }
+    ensures size { λ r. ⌜ MagnitudeSays z r ⌝ }
 {
     if z < 0 {
         return (-1 - z) as usize + 1;

@@ -11,7 +11,7 @@ use Rattle.basis.proofs.Order.{fails}
 use Rattle.session.proofs.Good.{good, world-fits, log-fits, state-fits, rows-fit}
 use Rattle.session.specs.Calls.{readingOrder}
 use Rattle.session.specs.Lent.{Lent, lent, leaves}
-use Rattle.clock.specs.Reading.{Given, answerOf, readingOrder as clockOrder}
+use Rattle.clock.specs.Reading.{Given, clockAnswer, clockOrder}
 use Rattle.session.proofs.Readings.{clock-refuses, clock-gives, due-fits, read-left}
 use Rattle.session.specs.Sound.{sound}
 use Rattle.yard.proofs.Cases.{passed, failed}
@@ -35,7 +35,7 @@ given n = record { clock = n .next .given .0 .0; due = n .next .given .0 .1 .0 }
 gave : (n : tie.After-next)
     → let s = start (n .before .before .before) in
     answer (clockOrder stepLength (s .args .self .clock) (s .args .reading)) ≡ accepted (given n)
-gave n = sym (n .before .before .read .ensures) ∙ ap answerOf (n .next .given .1)
+gave n = sym (n .before .before .read .ensures) ∙ ap clockAnswer (n .next .given .1)
 
 fits : (n : tie.After-next)
     → start (n .before .before .before) .args .self .clock .steps + given n .due ≤ mostSteps
@@ -102,7 +102,7 @@ returns-2 c =
     sym
     (ap (leaves _)
     (clock-refuses (s .args .self) (mem s) (s .args .reading) (ok (r .before)) _
-    (sym (r .read .ensures) ∙ ap answerOf (c .before .number .given .1))))
+    (sym (r .read .ensures) ∙ ap clockAnswer (c .before .number .given .1))))
 
 same-length-5 : tie.Need-same-length-5
 same-length-5 c = search needs

@@ -3,7 +3,7 @@ use native.Mathlib.Omega.{arith}
 use lib.ListN.{length-set}
 use mathlib.Core.Path.{sym, ap, _∙_}
 use denote.Ref.{now}
-use Rattle.record.specs.Answers.{answerOf}
+use Rattle.record.specs.Answers.{readAnswer}
 use Rattle.session.specs.Lent.{filled}
 use Rattle.station.specs.Left.{fills, DONE}
 use Rattle.station.proofs.OneRecord.{read-refused, read-no-room, read-given}
@@ -23,7 +23,7 @@ start f = f .before .before .before .before .before
 -- The bytes are read as a record.
 accepts : (f : tie.After-r)
     → answer (readOrder mostCarriers (now (start f .args .bytes))) ≡ accepted (f .r .given .0 .0)
-accepts f = sym (f .before .before .read-record .ensures) ∙ ap answerOf (f .r .given .1)
+accepts f = sym (f .before .before .read-record .ensures) ∙ ap readAnswer (f .r .given .1)
 
 read-record-requires : tie.Need-read-record-requires
 read-record-requires c κs = search needs
@@ -69,7 +69,7 @@ returns-2 c =
     (sym
     (ap (fills _)
     (read-refused _ _
-    (sym (n .before .before .read-record .ensures) ∙ ap answerOf (n .number .given .1)))))
+    (sym (n .before .before .read-record .ensures) ∙ ap readAnswer (n .number .given .1)))))
 
 same-length : tie.Need-same-length
 same-length c = search needs

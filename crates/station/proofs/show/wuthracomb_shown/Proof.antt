@@ -8,7 +8,7 @@ use Rattle.basis.specs.Order.{answer}
 use Rattle.session.specs.Calls.{shownOrder}
 use Rattle.session.specs.Lent.{Lent, lent, filled}
 use Rattle.yard.proofs.Cases.{passed, failed}
-use Rattle.shown.specs.Answer.{answerOf}
+use Rattle.shown.specs.Answer.{shownAnswer}
 use Rattle.station.specs.Face.{shownFace}
 use Rattle.station.specs.Left.{fills, DONE}
 use Rattle.station.specs.Words.{sessionOf, wordsFit}
@@ -34,7 +34,7 @@ fits d = passed (d .before .before .before .words-fit .ensures) (d .before .befo
 
 -- The answer is of the session in the words.
 told : (d : tie.After-shown)
-    → answerOf (d .shown .result)
+    → shownAnswer (d .shown .result)
     ≡ answer (shownOrder (sessionOf (now (start d .args .session))) (mem (start d))
     (start d .args .carrier))
 told d = rw (← d .before .session-of .ensures) (d .shown .ensures)
@@ -93,7 +93,7 @@ returns-3 c =
     rw (c .wide3 .ensures)
     (sym
     (ap (fills _)
-    (shows-refused _ _ _ _ _ (long d) (fits d) (sym (told d) ∙ ap answerOf (n .number .given .1)))))
+    (shows-refused _ _ _ _ _ (long d) (fits d) (sym (told d) ∙ ap shownAnswer (n .number .given .1)))))
 
 same-length : tie.Need-same-length
 same-length c = search needs
@@ -108,7 +108,7 @@ returns-4 c =
     ap (filled DONE) (stores out (place .x ∷ place .y ∷ []) (long d))
     ∙ sym
     (ap (fills out)
-    (shows-given _ _ _ _ _ (long d) (fits d) (sym (told d) ∙ ap answerOf (n .place .given .1))))
+    (shows-given _ _ _ _ _ (long d) (fits d) (sym (told d) ∙ ap shownAnswer (n .place .given .1))))
 
 pub wuthracomb-shown-spec : {M : Type 1} → statement M
 wuthracomb-shown-spec =

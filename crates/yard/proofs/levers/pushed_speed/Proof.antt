@@ -5,7 +5,7 @@ use lib.IntN.{_+ℤ_}
 use mir.Syntax.{w32}
 use mir.Val.{SFits}
 use mir.Facts.{toZ-ofZ}
-use Rattle.yard.specs.Levers.{cut}
+use Rattle.yard.specs.Levers.{cutSpeed}
 use Rattle.yard.proofs.Signed.{read, small, abs-add}
 use Rattle.yard.proofs.levers.pushed_speed.Statement.{statement}
 use Rattle.yard.proofs.levers.pushed_speed.Tie as tie
@@ -22,17 +22,17 @@ add-speed : tie.Need-add-speed
 add-speed s = rw (toZ-ofZ (s .fits .old), toZ-ofZ (s .fits .push)) (sum-fits s)
 
 returns : tie.Need-returns
-unfolding cut
+unfolding cutSpeed
 returns c = simp (rw (sum-is (c .before)) at (c .if1 .taken))
 
 returns-2 : tie.Need-returns-2
-unfolding cut
+unfolding cutSpeed
 returns-2 c =
     let e = sum-is (c .before .before) in
     simp (rw e at (c .before .if1 .left), rw e at (c .if2 .taken))
 
 returns-3 : tie.Need-returns-3
-unfolding cut
+unfolding cutSpeed
 returns-3 c =
     let e = sum-is (c .before .before) in
     rw e (simp (rw e at (c .before .if1 .left), rw e at (c .if2 .left)))
