@@ -23,6 +23,7 @@ use Rattle.rope.specs.Says.{StepSays}
 use Rattle.rope.specs.Statements.{Determined, StepNumbers, NoForces, RopeEnds}
 use Rattle.rope.specs.Statements.{pointAt, Examples}
 use Rattle.rope.proofs.Own.{kept, keeps-value, from-minus-zero}
+use Rattle.rope.proofs.Steps.{same-counted}
 use Rattle.rope.proofs.Rule18.{refused-when, settled}
 
 -- No two answers stand for the same point or number.
@@ -86,19 +87,13 @@ module _ (point : Point) (forces : List Force) (next : Point)
         zero = λ e. is ∙ ap (λ x. add binary64 x plusZero) e ∙ from-minus-zero;
       }
 
-past : (point : Point) (forces others : List Force) (count : ℕ)
-    → take count forces ≡ take count others
-    → answer (stepOrder point forces count) ≡ answer (stepOrder point others count)
-unfolding stepOrder
-past point forces others count same = rw same
-
 pub ropeEnds : RopeEnds
 ropeEnds =
     record {
       numbers = numbers;
       noForces = noForces;
       counted =
-          λ point forces others count out same says. says ∙ past point forces others count same;
+          λ point forces others count out same says. says ∙ same-counted point forces others count same;
     }
 
 -- A point by other names of its numbers.

@@ -41,3 +41,10 @@ module _ (point : Point) (forces : List Force) (count : ℕ) where
         unfolding stepOrder
         moves e =
             passes _ _ (le-leb _ _ few) ∙ passes _ _ p ∙ passes _ _ f ∙ passes _ _ e ∙ gives _
+
+-- What lies past the count plays no part.
+pub same-counted : (point : Point) (forces others : List Force) (count : ℕ)
+    → take count forces ≡ take count others
+    → answer (stepOrder point forces count) ≡ answer (stepOrder point others count)
+unfolding stepOrder
+same-counted point forces others count same = rw same

@@ -4,4 +4,5 @@ pub mod Sessions
 pub mod OneRecord
 pub mod Showing
 pub mod Leaving
+pub mod Ropes
 pub mod Statements

@@ -1,19 +1,20 @@
+-- `force_of` meets its contract.
+use borrow.Author.Tests.{eq-eqb, ne-eqb}
+use Rattle.station.specs.Ropes.{forceOf}
 use Rattle.station.proofs.rope_ends.force_of.Statement.{statement}
 use Rattle.station.proofs.rope_ends.force_of.Tie as tie
-use Rattle.station.proofs.rope_ends.force_of.Reads as reads
-use Rattle.station.proofs.rope_ends.force_of.Lts as lts
 
--- src/rope_ends.rt:54:9
 returns : tie.Need-returns
-returns c = ?
+unfolding forceOf
+returns c = rw (eq-eqb _ 0 (c .if1 .taken))
 
--- src/rope_ends.rt:57:9
 returns-2 : tie.Need-returns-2
-returns-2 c = ?
+unfolding forceOf
+returns-2 c = rw (ne-eqb _ 0 (c .before .if1 .left), eq-eqb _ 1 (c .if2 .taken))
 
--- src/rope_ends.rt:50:1
 returns-3 : tie.Need-returns-3
-returns-3 c = ?
+unfolding forceOf
+returns-3 c = rw (ne-eqb _ 0 (c .before .if1 .left), ne-eqb _ 1 (c .if2 .left))
 
 pub force-of-spec : {M : Type 1} → statement M
 force-of-spec = tie.close (tie.spec returns returns-2 returns-3)

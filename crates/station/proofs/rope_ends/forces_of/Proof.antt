@@ -1,82 +1,86 @@
+-- `forces_of` meets its contract. The loop's invariant: the forces put into the array, and those
+-- from `i` on, are all of them.
+use Prim.Native.Nat.{_*_, _≤_, _-_}
+use mathlib.Core.Path.{_≡_, refl, sym, ap, _∙_}
+use mathlib.Core.List.{_++_}
+use denote.Ref.{now}
+use lib.ListN.{length, take, drop, length-set}
+use Rattle.station.specs.Ropes.{forcesOf}
+use Rattle.station.proofs.Ropes.{force-put, all-put}
+use borrow.Author.Needs.{needs}
 use Rattle.station.proofs.rope_ends.forces_of.Statement.{statement}
 use Rattle.station.proofs.rope_ends.forces_of.Tie as tie
-use Rattle.station.proofs.rope_ends.forces_of.Reads as reads
-use Rattle.station.proofs.rope_ends.forces_of.Lts as lts
-use Rattle.station.proofs.rope_ends.force_of.Reads as force-of-reads
 
 abbrev Inv-loop : tie.InvT-loop
-Inv-loop kinds numbers forces₀ i₀ forces i = ?
+Inv-loop kinds numbers forces₀ i₀ forces i =
+    (i ≤ length kinds)
+    × (length forces ≡ 8)
+    × (take i forces ++ forcesOf (drop i kinds) (drop (2 * i) numbers) ≡ forcesOf kinds numbers)
 
 abbrev μ-loop : tie.MeasureT-loop
-μ-loop kinds numbers forces₀ i₀ forces i = ?
+μ-loop kinds numbers forces₀ i₀ forces i = length kinds - i
 
--- src/rope_ends.rt:71:5
 loop-holds : tie.Need-loop-holds Inv-loop μ-loop
-loop-holds c = ?
+loop-holds c = (search needs, refl, refl)
 
--- src/rope_ends.rt:72:30
 mul-force-of : tie.Need-mul-force-of Inv-loop μ-loop
-mul-force-of c = ?
+mul-force-of c = search needs
 
--- src/rope_ends.rt:72:30
 shared-slice-read-force-of : tie.Need-shared-slice-read-force-of Inv-loop μ-loop
-shared-slice-read-force-of c = ?
+shared-slice-read-force-of c = search needs
 
--- src/rope_ends.rt:72:48
 mul-force-of-2 : tie.Need-mul-force-of-2 Inv-loop μ-loop
-mul-force-of-2 c = ?
+mul-force-of-2 c = search needs
 
--- src/rope_ends.rt:72:40
 mul-force-of-3 : tie.Need-mul-force-of-3 Inv-loop μ-loop
-mul-force-of-3 c = ?
+mul-force-of-3 c = search needs
 
--- src/rope_ends.rt:72:40
 shared-slice-read-force-of-2 : tie.Need-shared-slice-read-force-of-2 Inv-loop μ-loop
-shared-slice-read-force-of-2 c = ?
+shared-slice-read-force-of-2 c = search needs
 
--- src/rope_ends.rt:72:64
 mul-force-of-4 : tie.Need-mul-force-of-4 Inv-loop μ-loop
-mul-force-of-4 c = ?
+mul-force-of-4 c = search needs
 
--- src/rope_ends.rt:72:64
 add-force-of : tie.Need-add-force-of Inv-loop μ-loop
-add-force-of c = ?
+add-force-of c = search needs
 
--- src/rope_ends.rt:72:56
 mul-force-of-5 : tie.Need-mul-force-of-5 Inv-loop μ-loop
-mul-force-of-5 c = ?
+mul-force-of-5 c = search needs
 
--- src/rope_ends.rt:72:56
 shared-slice-read-force-of-3 : tie.Need-shared-slice-read-force-of-3 Inv-loop μ-loop
-shared-slice-read-force-of-3 c = ?
+shared-slice-read-force-of-3 c = search needs
 
--- src/rope_ends.rt:72:21
 force-of-requires : tie.Need-force-of-requires Inv-loop μ-loop
-force-of-requires c κs = ?
+force-of-requires c κs = search needs
 
--- src/rope_ends.rt:72:9
 mul-forces : tie.Need-mul-forces Inv-loop μ-loop
-mul-forces c = ?
+mul-forces c = search needs
 
--- src/rope_ends.rt:72:9
 array-set-from-forces : tie.Need-array-set-from-forces Inv-loop μ-loop
-array-set-from-forces c = ?
+array-set-from-forces c = search needs
 
--- src/rope_ends.rt:73:9
 add-i : tie.Need-add-i Inv-loop μ-loop
-add-i c = ?
+add-i c = search needs
 
--- src/rope_ends.rt:71:5
 loop-less : tie.Need-loop-less Inv-loop μ-loop
-loop-less c = ?
+loop-less c = search needs
 
--- src/rope_ends.rt:71:5
 loop-again : tie.Need-loop-again Inv-loop μ-loop
-loop-again c = ?
+loop-again c =
+    let p = c .before .before .before .before .before in
+    let a = p .before .before .before .args in
+    let kinds = now (a .kinds) in
+    let numbers = now (a .numbers) in
+    (search needs,
+    simp length-set (p .loop .inv .1),
+    rw (c .force-of .ensures)
+    (sym (force-put kinds (p .loop .i) (search needs) numbers (p .loop .forces) (search needs))
+    ∙ p .loop .inv .2))
 
--- src/rope_ends.rt:63:1
 returns : tie.Need-returns Inv-loop μ-loop
-returns c = ?
+returns c =
+    let p = c .before in
+    all-put _ _ _ _ (c .loop-test .left) (p .loop .inv .0) (p .loop .inv .2)
 
 pub forces-of-spec : {M : Type 1} → statement M
 forces-of-spec =

@@ -1,45 +1,52 @@
+-- `kinds_hold` meets its contract. The loop's invariant: the kinds hold exactly where those from
+-- `i` on do.
+use Prim.Native.Nat.{_≤_, _-_}
+use mathlib.Core.Path.{_≡_, refl, sym, ap, _∙_}
+use denote.Ref.{now}
+use lib.ListN.{length, drop, drop-of-length-le}
+use Rattle.station.specs.Ropes.{kindsHold}
+use Rattle.station.proofs.Ropes.{kind-fails, kind-holds}
+use borrow.Author.Needs.{needs}
 use Rattle.station.proofs.rope_ends.kinds_hold.Statement.{statement}
 use Rattle.station.proofs.rope_ends.kinds_hold.Tie as tie
-use Rattle.station.proofs.rope_ends.kinds_hold.Reads as reads
-use Rattle.station.proofs.rope_ends.kinds_hold.Lts as lts
 
 abbrev Inv-loop : tie.InvT-loop
-Inv-loop kinds i₀ i = ?
+Inv-loop kinds i₀ i = (i ≤ length kinds) × (kindsHold kinds ≡ kindsHold (drop i kinds))
 
 abbrev μ-loop : tie.MeasureT-loop
-μ-loop kinds i₀ i = ?
+μ-loop kinds i₀ i = length kinds - i
 
--- src/rope_ends.rt:40:5
 loop-holds : tie.Need-loop-holds Inv-loop μ-loop
-loop-holds c = ?
+loop-holds c = (search needs, refl)
 
--- src/rope_ends.rt:41:12
 mul-if1 : tie.Need-mul-if1 Inv-loop μ-loop
-mul-if1 c = ?
+mul-if1 c = search needs
 
--- src/rope_ends.rt:41:12
 shared-slice-read-if1 : tie.Need-shared-slice-read-if1 Inv-loop μ-loop
-shared-slice-read-if1 c = ?
+shared-slice-read-if1 c = search needs
 
--- src/rope_ends.rt:42:13
 returns : tie.Need-returns Inv-loop μ-loop
-returns c = ?
+returns c =
+    let p = c .before .before .before in
+    let kinds = now (p .before .args .kinds) in
+    sym (p .loop .inv .1 ∙ kind-fails kinds (p .loop .i) (search needs) (c .if1 .taken))
 
--- src/rope_ends.rt:44:9
 add-i : tie.Need-add-i Inv-loop μ-loop
-add-i c = ?
+add-i c = search needs
 
--- src/rope_ends.rt:40:5
 loop-less : tie.Need-loop-less Inv-loop μ-loop
-loop-less c = ?
+loop-less c = search needs
 
--- src/rope_ends.rt:40:5
 loop-again : tie.Need-loop-again Inv-loop μ-loop
-loop-again c = ?
+loop-again c =
+    let p = c .before .before .before in
+    let kinds = now (p .before .args .kinds) in
+    (search needs, p .loop .inv .1 ∙ kind-holds kinds (p .loop .i) (search needs) (c .if1 .left))
 
--- src/rope_ends.rt:36:1
 returns-2 : tie.Need-returns-2 Inv-loop μ-loop
-returns-2 c = ?
+unfolding kindsHold
+returns-2 c =
+    sym (c .before .loop .inv .1 ∙ ap kindsHold (drop-of-length-le _ (c .loop-test .left)))
 
 pub kinds-hold-spec : {M : Type 1} → statement M
 kinds-hold-spec =
