@@ -22,7 +22,7 @@ use Rattle.rope.specs.Step.{mostForces, finitePoint, movedUnder, stepOrd
 use Rattle.rope.specs.Facts.{NotFinite, PointNotFinite, ForceNotFinite, Rule18}
 
 -- One of two tests fails.
-both-fail : {P Q : Type 0} (s t : Bool) → (s ≡ false) ↔ P → (t ≡ false) ↔ Q
+pub both-fail : {P Q : Type 0} (s t : Bool) → (s ≡ false) ↔ P → (t ≡ false) ↔ Q
     → ((s && t) ≡ false) ↔ (P ⊎ Q)
 both-fail true t p q = (λ e. inr (q .0 e), ⊎-elim (λ h. never refl (p .1 h)) (q .1))
 both-fail false t p q = (λ e. inl (p .0 refl), λ h. refl)

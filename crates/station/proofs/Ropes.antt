@@ -92,6 +92,11 @@ unfolding forcesOf
 forces-length [] numbers = refl
 forces-length (kind ∷ kinds) numbers = ap suc (forces-length kinds (drop 2 numbers))
 
+pub all-forces : (kinds : List ℕ) (numbers : List Float)
+    → take (length kinds) (forcesOf kinds numbers) ≡ forcesOf kinds numbers
+all-forces kinds numbers =
+    take-all (length kinds) (forcesOf kinds numbers) (omega (arith, forces-length kinds numbers))
+
 -- The step of the array's forces is that of these.
 pub array-step : (point : Point) (array : List Force) (kinds : List ℕ) (numbers : List Float)
     → take (length kinds) array ≡ forcesOf kinds numbers
@@ -99,8 +104,7 @@ pub array-step : (point : Point) (array : List Force) (kinds : List ℕ) (number
     ≡ answer (stepOrder point (forcesOf kinds numbers) (length kinds))
 array-step point array kinds numbers e =
     same-counted point array (forcesOf kinds numbers) (length kinds)
-    (e ∙ sym (take-all (length kinds) (forcesOf kinds numbers)
-    (omega (arith, forces-length kinds numbers))))
+    (e ∙ sym (all-forces kinds numbers))
 
 module _ (kinds : List ℕ) (numbers point : List Float) where
   pub wrong-numbers : eqb (length numbers) (2 * length kinds) ≡ false
