@@ -12,7 +12,7 @@ use Rattle.record.specs.declared.bytes.Record.{Record}
 use Rattle.fleet.specs.State.{World}
 use Rattle.course.specs.Calls.{Call, reading, delivery}
 use Rattle.session.specs.declared.Session.{Session}
-use Rattle.session.specs.Lent.{Lent, lent, Made, made, tells}
+use Rattle.session.specs.Lent.{Lent, lent, Made, tells}
 use Rattle.session.specs.Calls.{openOrder, readingOrder, deliverOrder, Delivery}
 
 -- What is handed from call to call: the session, and state, rows and log as they stand.
@@ -73,8 +73,3 @@ heldBy h = records (sessionIn h .held) (h .log)
 -- 'only the held part of a buffer is given': eight bytes for each record held.
 abbrev pub heldPart : Handed → List ℕ
 heldPart h = take (8 * sessionIn h .held) (h .log)
-
--- A delivery is answered by this number, and all is as it was.
-abbrev pub answered : ℕ → Handed → Made Delivery
-answered number h =
-    made (record { number = number; session = sessionIn h }) (h .state) (h .rows) (h .log)

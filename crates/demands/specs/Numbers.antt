@@ -1,6 +1,6 @@
 -- 'each given exactly when its rule says' (demand 1): the numbers of each call of `session`, one
--- field a number, in plain facts. On the left what comes out, all else as before; on the right what
--- has passed, in document 01's order, and then what fails. No test stands among them.
+-- field a number, in plain facts. On the left what comes out, all lent as before; on the right what
+-- has passed, in document 01's order, and on a line of its own what fails. No test stands among them.
 use Prim.Native.Nat.{ℕ, _+_, _-_, _<_, _≤_}
 use mathlib.Core.Path.{_≡_}
 use mathlib.Core.Logic.{_↔_, _⊎_, _≢_}
@@ -13,7 +13,6 @@ use Rattle.clock.specs.Clock.{due}
 use Rattle.clock.specs.Reading.{givenBy}
 use Rattle.digest.specs.Fnv.{digestOf}
 use Rattle.digest.specs.Words.{stateBytes}
-use Rattle.shown.specs.declared.Place.{Place}
 use Rattle.shown.specs.declared.Shown.{Shown}
 use Rattle.shown.specs.declared.Shown.the-variants as shown
 use Rattle.yard.specs.declared.world.Yard.{Yard}
@@ -43,11 +42,8 @@ pub record OpenNumbers (yard : Yard) (reading : ℕ) (l : Lent) (out : Made Runn
   pub room : (out ≡ asBefore (running.Refused 10) l)
       ↔ (InRange yard × (Room yard l → ⊥))
   -- Neither: the session opened.
-  pub opened : (m : Made Session) → (out ≡ tells running.Open m)
-      ↔ (InRange yard
-      × Room yard l
-      × Valid yard (l .cells) (l .boxes)
-      × (opened yard reading l ≡ m))
+  pub opened : (out ≡ tells running.Open (opened yard reading l))
+      ↔ (InRange yard × Room yard l × Valid yard (l .cells) (l .boxes))
 
 -- 'Reading: 14, 11, 12', number by number; t is the reading.
 pub record ReadingNumbers (session : Session) (t : ℕ) (l : Lent) (out : Made Running) : Type 0 where
@@ -59,15 +55,12 @@ pub record ReadingNumbers (session : Session) (t : ℕ) (l : Lent) (out : Made R
       ↔ (Sound session l × (t < session .clock .last))
   -- 12: neither, and 'steps made plus the steps due would pass 180,000'
   pub end : (out ≡ asBefore (running.Refused 12) l)
-      ↔ (Sound session l
-      × (session .clock .last ≤ t)
+      ↔ (Sound session l × (session .clock .last ≤ t)
       × (180000 < session .clock .steps + due 20000 (session .clock) t))
   -- None of the three: the session, and what the steps due leave.
-  pub read : (m : Made Session) → (out ≡ tells running.Open m)
-      ↔ (Sound session l
-      × (session .clock .last ≤ t)
-      × (session .clock .steps + due 20000 (session .clock) t ≤ 180000)
-      × (readOn session l (givenBy 20000 (session .clock) t) ≡ m))
+  pub read : (out ≡ tells running.Open (readOn session l (givenBy 20000 (session .clock) t)))
+      ↔ (Sound session l × (session .clock .last ≤ t)
+      × (session .clock .steps + due 20000 (session .clock) t ≤ 180000))
   -- 'An equal reading is accepted and makes no step': session, state, rows and log stay as they were.
   pub equal : Sound session l → t ≡ session .clock .last → out ≡ asBefore (running.Open session) l
 
@@ -75,60 +68,45 @@ pub record ReadingNumbers (session : Session) (t : ℕ) (l : Lent) (out : Made R
 -- number by number; r is the record in the bytes.
 pub record DeliverNumbers (session : Session) (bytes : List ℕ) (r : Record) (l : Lent)
     (out : Made Delivered) : Type 0 where
-  -- 2: 'not 8 bytes, or one of the last two isn't 0'
+  -- 2: sound, and 'not 8 bytes, or one of the last two isn't 0'
   pub malformed : (out ≡ asBefore (delivered.Refused 2) l)
       ↔ (Sound session l × (Formed bytes → ⊥))
-  -- 3: 'carrier number is B or more'
+  -- 3: not 2, and 'carrier number is B or more'
   pub carrier : (out ≡ asBefore (delivered.Refused 3) l)
       ↔ (Sound session l × Formed bytes × (session .yard .b ≤ r .carrier))
-  -- 4: 'lever above 9'
+  -- 4: neither 2 nor 3, and 'lever above 9'
   pub lever : (out ≡ asBefore (delivered.Refused 4) l)
       ↔ (Sound session l × Formed bytes × (r .carrier < session .yard .b) × (9 < r .lever))
-  -- 5: 'record step is 180,000 or more'
+  -- 5: none of 2, 3 and 4, and 'record step is 180,000 or more'
   pub step : (out ≡ asBefore (delivered.Refused 5) l)
-      ↔ (Sound session l
-      × Formed bytes
-      × (r .carrier < session .yard .b)
-      × (r .lever ≤ 9)
+      ↔ (Sound session l × Formed bytes × (r .carrier < session .yard .b) × (r .lever ≤ 9)
       × (180000 ≤ r .step))
-  -- 1: 'the same 8 bytes are already held; nothing changes'
+  -- 1: rules 2 to 5 pass, and 'the same 8 bytes are already held; nothing changes'
   pub held : (out ≡ asBefore (delivered.Held session) l)
       ↔ (Sound session l × Readable (session .yard .b) bytes × HeldHere session l r (r .lever))
-  -- 6: 'another lever is held at that place'
+  -- 6: rules 2 to 5 pass, and 'another lever is held at that place'
   pub conflict : (out ≡ asBefore (delivered.Refused 6) l)
-      ↔ (Sound session l
-      × Readable (session .yard .b) bytes
+      ↔ (Sound session l × Readable (session .yard .b) bytes
       × ((other : ℕ) × HeldHere session l r other × (other ≢ r .lever)))
-  -- 7: 'record step + 64 is below the steps made'
+  -- 7: none is held there, and 'record step + 64 is below the steps made'
   pub late : (out ≡ asBefore (delivered.Refused 7) l)
-      ↔ (Sound session l
-      × Readable (session .yard .b) bytes
-      × NoneHere session l r
+      ↔ (Sound session l × Readable (session .yard .b) bytes × NoneHere session l r
       × (r .step + 64 < session .clock .steps))
-  -- 8: '2,048 records are held'
+  -- 8: not 7, and '2,048 records are held'
   pub full : (out ≡ asBefore (delivered.Refused 8) l)
-      ↔ (Sound session l
-      × Readable (session .yard .b) bytes
-      × NoneHere session l r
+      ↔ (Sound session l × Readable (session .yard .b) bytes × NoneHere session l r
       × (session .clock .steps ≤ r .step + 64)
       × (2048 ≤ session .held))
-  -- 14: not sound; or last, 'for the row to be brought back'.
+  -- 14: not sound; or last, neither 7 nor 8, and 'the row to be brought back' isn't sound.
   pub fault : (out ≡ asBefore (delivered.Refused 14) l)
       ↔ ((Sound session l → ⊥)
-      ⊎ (Sound session l
-      × Readable (session .yard .b) bytes
-      × NoneHere session l r
-      × (session .clock .steps ≤ r .step + 64)
-      × (session .held < 2048)
-      × (r .step < session .clock .steps)
-      × (RowSound session l (r .step) → ⊥)))
-  -- 0: 'the record is now held'
+      ⊎ (Sound session l × Readable (session .yard .b) bytes × NoneHere session l r
+      × (session .clock .steps ≤ r .step + 64) × (session .held < 2048)
+      × (r .step < session .clock .steps) × (RowSound session l (r .step) → ⊥)))
+  -- 0: none of these, and 'the record is now held'
   pub taken : (out ≡ tells (λ d. delivered.Taken (d .session)) (takeIn session l r))
-      ↔ (Sound session l
-      × Readable (session .yard .b) bytes
-      × NoneHere session l r
-      × (session .clock .steps ≤ r .step + 64)
-      × (session .held < 2048)
+      ↔ (Sound session l × Readable (session .yard .b) bytes × NoneHere session l r
+      × (session .clock .steps ≤ r .step + 64) × (session .held < 2048)
       × ((session .clock .steps ≤ r .step) ⊎ RowSound session l (r .step)))
 
 -- 'Replay: opening's order without rows .., then 13, then 5', number by number.
@@ -147,33 +125,27 @@ pub record ReplayNumbers (yard : Yard) (steps : ℕ) (cells : List ℕ) (boxes s
   -- 5: none of these, and 'replay of more than 180,000 steps'
   pub step : (out ≡ filled (replayed.Refused 5) state)
       ↔ (Opens yard cells boxes state × LogValid (yard .b) log × (180000 < steps))
-  -- None of the four: the state after so many steps.
-  pub done : (after : List ℤ) → (out ≡ filled replayed.Done after)
-      ↔ (Opens yard cells boxes state
-      × LogValid (yard .b) log
-      × (steps ≤ 180000)
-      × (moved (worldOf yard cells boxes) steps (recordsOf log) ≡ after))
+  -- None of the four: 'the state after n steps' is written.
+  pub done : (out ≡ filled replayed.Done (moved (worldOf yard cells boxes) steps (recordsOf log)))
+      ↔ (Opens yard cells boxes state × LogValid (yard .b) log × (steps ≤ 180000))
 
 -- The digest, 'Unsound: 14.'
 pub record DigestNumbers (session : Session) (l : Lent) (out : Digested) : Type 0 where
   pub fault : (out ≡ digested.Refused 14) ↔ (Sound session l → ⊥)
-  pub value : (v : ℕ) → (out ≡ digested.Value v)
-      ↔ (Sound session l × (digestOf (stateBytes (session .clock .steps) (l .state)) ≡ v))
+  pub value : (out ≡ digested.Value (digestOf (stateBytes (session .clock .steps) (l .state))))
+      ↔ Sound session l
 
--- The shown place, 'Order: 14, 3, then 14 for the row', number by number; at n = 0 there is none.
+-- The shown place, 'Order: 14, 3, then 14 for the row', number by number; i is the carrier. 'row n-1;
+-- at n = 0, p is c': then no row is used.
 pub record ShownNumbers (session : Session) (i : ℕ) (l : Lent) (out : Shown) : Type 0 where
-  -- 14: not sound; or last, the row of the step before isn't.
+  -- 14: not sound; or last, the row before the last step isn't.
   pub fault : (out ≡ shown.Refused 14)
       ↔ ((Sound session l → ⊥)
-      ⊎ (Sound session l
-      × (i < session .yard .b)
-      × (0 < session .clock .steps)
-      × (RowSound session l (session .clock .steps - 1) → ⊥)))
-  -- 3: 'carrier number is B or more'
+      ⊎ (Sound session l × (i < session .yard .b)
+      × (0 < session .clock .steps) × (RowSound session l (session .clock .steps - 1) → ⊥)))
+  -- 3: sound, and 'carrier number is B or more'
   pub carrier : (out ≡ shown.Refused 3) ↔ (Sound session l × (session .yard .b ≤ i))
   -- Neither: the place.
-  pub place : (place : Place) → (out ≡ shown.At place)
-      ↔ (Sound session l
-      × (i < session .yard .b)
-      × (0 < session .clock .steps → RowSound session l (session .clock .steps - 1))
-      × (shownOf session l i ≡ place))
+  pub place : (out ≡ shown.At (shownOf session l i))
+      ↔ (Sound session l × (i < session .yard .b)
+      × (0 < session .clock .steps → RowSound session l (session .clock .steps - 1)))

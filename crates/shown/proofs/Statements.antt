@@ -78,5 +78,5 @@ shownPlace =
 
 pub examples : Examples
 unfolding blendOf ofInt add sub mul div le toBits
-examples = 
+examples =
     record { halfway = refl; below = refl; above = refl; rounded = refl; zero = refl }
