@@ -26,9 +26,10 @@ scale : (f : Format) (e : ℤ) → down e ≤ 2 ^ low f
     → (j : ℕ) × (up e * 2 ^ low f ≡ 2 ^ j * down e)
 scale f (pos k) h = (k + low f, sym (mul-one (2 ^ (k + low f)) ∙ pow-add 2 k (low f)))
 scale f (negsuc k) h =
-    let deep : suc k ≤ low f = go (ltb (low f) (suc k)) refl in
-    (low f - suc k,
-    one-mul (2 ^ low f) ∙ ap (λ n. 2 ^ n) (omega arith) ∙ pow-add 2 (low f - suc k) (suc k))
+    let deep : suc k ≤ low f = go (ltb (low f) (suc k)) refl in (
+      low f - suc k,
+      one-mul (2 ^ low f) ∙ ap (λ n. 2 ^ n) (omega arith) ∙ pow-add 2 (low f - suc k) (suc k),
+    )
   where
     go : (b : Bool) → ltb (low f) (suc k) ≡ b → suc k ≤ low f
     go true e = absurd (not-le-of-lt (pow-lt (ltb-true (low f) (suc k) e)) h)

@@ -53,10 +53,11 @@ forces-not-finite [] = (never refl, λ h. absurd (List·Memᴰ·not-nil (h .1)))
 forces-not-finite (force ∷ forces) =
     Iff·trans
     (both-fail (finiteForce force) (finiteForces forces) (force-not-finite force)
-    (forces-not-finite forces))
-    (⊎-elim (λ h. (force, List·Memᴰ·head refl, h)) (λ h. (h .0, List·Memᴰ·tail (h .1), h .2)),
-    λ h. ⊎-elim (λ e. inl (subst ForceNotFinite e (h .2))) (λ m. inr (h .0, m, h .2))
-    (List·Memᴰ·cases-cons (h .1)))
+    (forces-not-finite forces)) (
+      ⊎-elim (λ h. (force, List·Memᴰ·head refl, h)) (λ h. (h .0, List·Memᴰ·tail (h .1), h .2)),
+      λ h. ⊎-elim (λ e. inl (subst ForceNotFinite e (h .2))) (λ m. inr (h .0, m, h .2))
+          (List·Memᴰ·cases-cons (h .1)),
+    )
 
 -- A test and the rest of an order that have one number.
 module _ {A : Type 0} {P : Type 0} (t : Bool) (p : (t ≡ false) ↔ P) (n : ℕ) (rest : Order A) where

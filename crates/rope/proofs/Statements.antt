@@ -54,8 +54,8 @@ module _ (point : Point) (forces : List Force) (count : ℕ) (out : Stepped)
       else = (
         λ e h. apart (sym (refused-when point forces count .1 h) ∙ e),
         λ no-rule.
-        ⊎-elim (λ e. absurd (no-rule (refused-when point forces count .0 e))) (λ e. e)
-        (settled point forces count),
+            ⊎-elim (λ e. absurd (no-rule (refused-when point forces count .0 e))) (λ e. e)
+            (settled point forces count),
       )
 
 -- Nothing is added to the speed.
@@ -65,27 +65,28 @@ no-push = refl
 
 module _ (point : Point) (forces : List Force) (next : Point)
     (says : StepSays point forces 0 (Moved next)) (fits-it : fits binary64 (point .speed) ≡ true)
-    where
-  -- What the acceptance says of the point, and of the point that is given.
-  told : (finite (point .speed) ≡ true) × (next .speed ≡ add binary64 (point .speed) plusZero)
-  unfolding stepOrder finitePoint movedBy speedBy sumFrom
-  told =
-      let (few, after-count) = held _ _ _ (sym says) in
-      let (holds, after-point) = held _ _ _ after-count in
-      let (forces-hold, after-forces) = held _ _ _ after-point in
-      let (result-holds, end) = held _ _ _ after-forces in
-      (and-right (finite (point .place)) (finite (point .speed)) holds,
-      ap (λ (p : Point). p .speed) (sym (given _ end))
-      ∙ ap (add binary64 (point .speed)) no-push)
+  where
+    -- What the acceptance says of the point, and of the point that is given.
+    told : (finite (point .speed) ≡ true) × (next .speed ≡ add binary64 (point .speed) plusZero)
+    unfolding stepOrder finitePoint movedBy speedBy sumFrom
+    told =
+        let (few, after-count) = held _ _ _ (sym says) in
+        let (holds, after-point) = held _ _ _ after-count in
+        let (forces-hold, after-forces) = held _ _ _ after-point in
+        let (result-holds, end) = held _ _ _ after-forces in (
+          and-right (finite (point .place)) (finite (point .speed)) holds,
+          ap (λ (p : Point). p .speed) (sym (given _ end))
+              ∙ ap (add binary64 (point .speed)) no-push,
+        )
 
-  pub noForces : NoForces point next
-  noForces =
-      let (holds, is) = told in
-      record {
-        value = rw is (keeps-value (point .speed) fits-it holds);
-        same = λ other. is ∙ kept (point .speed) fits-it holds other;
-        zero = λ e. is ∙ ap (λ x. add binary64 x plusZero) e ∙ from-minus-zero;
-      }
+    pub noForces : NoForces point next
+    noForces =
+        let (holds, is) = told in
+        record {
+          value = rw is (keeps-value (point .speed) fits-it holds);
+          same = λ other. is ∙ kept (point .speed) fits-it holds other;
+          zero = λ e. is ∙ ap (λ x. add binary64 x plusZero) e ∙ from-minus-zero;
+        }
 
 pub ropeEnds : RopeEnds
 ropeEnds =

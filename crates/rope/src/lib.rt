@@ -125,9 +125,13 @@ impl Point {
     fn moved(self, force: f64) -> Point
         ensures moved { λ r. ⌜ r ≡ movedBy self force ⌝ }
     {
-        let speed = self.speed + force * Point::TICK;
-        let place = self.place + speed * Point::TICK;
-        Point { place, speed }
+        let place = self.place;
+        let old = self.speed;
+        let speed = old + force * Point::TICK;
+        Point {
+            place: place + speed * Point::TICK,
+            speed,
+        }
     }
 
     // One step under the first `count` forces; what can't be used is refused as 18.

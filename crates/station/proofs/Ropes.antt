@@ -28,9 +28,10 @@ odd-numbers numbers forces odd = sym (ne-eqb numbers (2 * forces) (λ e. odd (om
 pub even-numbers : (numbers forces : ℕ) → numbers % 2 ≡ 0
     → eqb (numbers / 2) forces ≡ eqb numbers (2 * forces)
 even-numbers numbers forces even =
-    alike (says-eq (numbers / 2) forces)
-    (λ e. omega (arith, eqb-true numbers (2 * forces) e),
-    λ e. eq-eqb numbers (2 * forces) (omega arith))
+    alike (says-eq (numbers / 2) forces) (
+      λ e. omega (arith, eqb-true numbers (2 * forces) e),
+      λ e. eq-eqb numbers (2 * forces) (omega arith),
+    )
 
 -- One more element, put into an array behind those that are in it already.
 put-behind : {A : Type 0} (array : List A) (i : ℕ) (a : A) (rest : List A) → i < length array
@@ -60,8 +61,13 @@ module _ (kinds : List ℕ) (i : ℕ) (h : i < length kinds) where
   next-force numbers =
       let two : 2 * i + 2 ≡ 2 * (i + 1) = omega arith in
       ap (λ l. forcesOf l (drop (2 * i) numbers)) next-kind
-      ∙ rw (getD-drop (2 * i) numbers 0 nan, getD-drop (2 * i) numbers 1 nan,
-      add-zero (2 * i), drop-drop 2 (2 * i) numbers, two)
+      ∙ rw (
+        getD-drop (2 * i) numbers 0 nan,
+        getD-drop (2 * i) numbers 1 nan,
+        add-zero (2 * i),
+        drop-drop 2 (2 * i) numbers,
+        two,
+      )
 
   -- Put behind those that are in the array already.
   pub force-put : (numbers : List Float) (forces : List Force) → i < length forces

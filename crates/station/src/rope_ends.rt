@@ -18,7 +18,9 @@ struct Kind {}
 
 impl Kind {
     const PULL: u32 = 0;
+
     const SPRING: u32 = 1;
+
     const DRAG: u32 = 2;
 }
 

@@ -48,11 +48,12 @@ loop-less c = search needs
 loop-again : tie.Need-loop-again Inv-loop μ-loop
 loop-again c =
     let p = c .before .before .before .before in
-    let a = p .before .args in
-    (search needs,
-    p .loop .inv .1
-    ∙ next-holds (a .t1) (a .count) (p .loop .i) (search needs) (search needs)
-    (passed (c .before .holds .ensures) (c .if1 .left)))
+    let a = p .before .args in (
+      search needs,
+      p .loop .inv .1
+          ∙ next-holds (a .t1) (a .count) (p .loop .i) (search needs) (search needs)
+          (passed (c .before .holds .ensures) (c .if1 .left)),
+    )
 
 returns-2 : tie.Need-returns-2 Inv-loop μ-loop
 unfolding finiteForces

@@ -38,11 +38,12 @@ loop-less c = search needs
 loop-again : tie.Need-loop-again Inv-loop μ-loop
 loop-again c =
     let p = c .before .before .before in
-    let a = p .before .args in
-    (search needs,
-    rw (c .on .ensures)
-    (p .loop .inv .1
-    ∙ sum-next (a .t2) (a .count) (p .loop .i) (search needs) (a .self) (p .loop .sum) (search needs)))
+    let a = p .before .args in (
+      search needs,
+      rw (c .on .ensures)
+          (p .loop .inv .1
+          ∙ sum-next (a .t2) (a .count) (p .loop .i) (search needs) (a .self) (p .loop .sum) (search needs)),
+    )
 
 returns : tie.Need-returns Inv-loop μ-loop
 unfolding sumFrom

@@ -70,12 +70,13 @@ loop-again c =
     let p = c .before .before .before .before .before in
     let a = p .before .before .before .args in
     let kinds = now (a .kinds) in
-    let numbers = now (a .numbers) in
-    (search needs,
-    simp length-set (p .loop .inv .1),
-    rw (c .force-of .ensures)
-    (sym (force-put kinds (p .loop .i) (search needs) numbers (p .loop .forces) (search needs))
-    ∙ p .loop .inv .2))
+    let numbers = now (a .numbers) in (
+      search needs,
+      simp length-set (p .loop .inv .1),
+      rw (c .force-of .ensures)
+          (sym (force-put kinds (p .loop .i) (search needs) numbers (p .loop .forces) (search needs))
+          ∙ p .loop .inv .2),
+    )
 
 returns : tie.Need-returns Inv-loop μ-loop
 returns c =
