@@ -61,7 +61,8 @@ forces-not-finite (force ∷ forces) =
 
 -- A test and the rest of an order that have one number.
 module _ {A : Type 0} {P : Type 0} (t : Bool) (p : (t ≡ false) ↔ P) (n : ℕ) (rest : Order A) where
-  run : {Q : Type 0} → (answer rest ≡ refused n) ↔ Q → (answer (check t n rest) ≡ refused n) ↔ (P ⊎ Q)
+  run : {Q : Type 0} → (answer rest ≡ refused n) ↔ Q
+      → (answer (check t n rest) ≡ refused n) ↔ (P ⊎ Q)
   run {Q} q = (go t refl, ⊎-elim (λ h. fails n rest (p .1 h)) (λ h. back t refl (q .1 h)))
     where
       go : (u : Bool) → t ≡ u → answer (check t n rest) ≡ refused n → P ⊎ Q
@@ -101,7 +102,9 @@ Settled order n a = (answer order ≡ refused n) ⊎ (answer order ≡ accepted 
 
 settles : {A : Type 0} (t : Bool) (n : ℕ) (rest : Order A) (a : A) → Settled rest n a
     → Settled (check t n rest) n a
-settles true n rest a h = ⊎-elim (λ e. inl (passes n rest refl ∙ e)) (λ e. inr (passes n rest refl ∙ e)) h
+settles true n rest a h =
+    let on = passes n rest refl in
+    ⊎-elim (λ e. inl (on ∙ e)) (λ e. inr (on ∙ e)) h
 settles false n rest a h = inl (fails n rest refl)
 
 pub settled : (point : Point) (forces : List Force) (count : ℕ)

@@ -16,8 +16,9 @@ use Rattle.rope.specs.declared.Point.{Point}
 use Rattle.rope.specs.declared.Force.{Force}
 use Rattle.rope.specs.declared.Stepped.{Stepped}
 use Rattle.rope.specs.declared.Stepped.the-variants.{Moved, Refused}
-use Rattle.rope.specs.Forces.{plusZero, minusZero, forceOn, sumFrom, finiteForce, finiteForces}
-use Rattle.rope.specs.Step.{over, speedBy, movedBy, finitePoint, movedUnder, stepOrder, answerOf}
+use Rattle.rope.specs.Forces.{plusZero, forceOn, sumFrom, finiteForce, finiteForces}
+use Rattle.rope.specs.Step.{over, speedBy, movedBy, finitePoint, movedUnder, stepOrder}
+use Rattle.rope.specs.Step.{answerOf}
 use Rattle.rope.specs.Facts.{Rule18}
 use Rattle.rope.specs.Says.{StepSays}
 use Rattle.rope.specs.Statements.{Determined, StepNumbers, NoForces, RopeEnds}
@@ -49,7 +50,8 @@ module _ (point : Point) (forces : List Force) (count : ℕ) (out : Stepped)
         moved = Iff·trans (is-given (Moved (movedUnder point (take count forces)))) else;
       }
     where
-      else : (answer (stepOrder point forces count) ≡ accepted (movedUnder point (take count forces)))
+      else : (answer (stepOrder point forces count)
+          ≡ accepted (movedUnder point (take count forces)))
           ↔ (Rule18 point forces count → ⊥)
       else = (
         λ e h. apart (sym (refused-when point forces count .1 h) ∙ e),
@@ -94,7 +96,8 @@ ropeEnds =
       numbers = numbers;
       noForces = noForces;
       counted =
-          λ point forces others count out same says. says ∙ same-counted point forces others count same;
+          λ point forces others count out same says.
+          says ∙ same-counted point forces others count same;
     }
 
 -- A point by other names of its numbers.

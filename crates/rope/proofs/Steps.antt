@@ -37,7 +37,8 @@ module _ (point : Point) (forces : List Force) (count : ℕ) where
             passes _ _ (le-leb _ _ few) ∙ passes _ _ p ∙ passes _ _ f ∙ fails _ _ e
 
         pub moves : finitePoint (movedUnder point (take count forces)) ≡ true
-            → answer (stepOrder point forces count) ≡ accepted (movedUnder point (take count forces))
+            → answer (stepOrder point forces count)
+            ≡ accepted (movedUnder point (take count forces))
         unfolding stepOrder
         moves e =
             passes _ _ (le-leb _ _ few) ∙ passes _ _ p ∙ passes _ _ f ∙ passes _ _ e ∙ gives _

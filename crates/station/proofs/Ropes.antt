@@ -124,7 +124,8 @@ module _ (kinds : List ℕ) (numbers point : List Float) where
     wrong-point h = passes _ _ two ∙ fails _ _ (ne-eqb _ _ h)
 
     module _ (long : length point ≡ 2) where
-      pub wrong-kind : kindsHold kinds ≡ false → answer (ropeFace kinds numbers point) ≡ refused ROPE
+      pub wrong-kind : kindsHold kinds ≡ false
+          → answer (ropeFace kinds numbers point) ≡ refused ROPE
       unfolding ropeFace
       wrong-kind e = passes _ _ two ∙ passes _ _ (eq-eqb _ _ long) ∙ fails _ _ e
 
@@ -150,6 +151,7 @@ module _ (kinds : List ℕ) (numbers point : List Float) where
       pub too-many-kinds : 8 < length kinds → answer (ropeFace kinds numbers point) ≡ refused ROPE
       too-many-kinds h = go (kindsHold kinds) refl
         where
-          go : (t : Bool) → kindsHold kinds ≡ t → answer (ropeFace kinds numbers point) ≡ refused ROPE
+          go : (t : Bool) → kindsHold kinds ≡ t
+              → answer (ropeFace kinds numbers point) ≡ refused ROPE
           go true e = step-refused e (too-many (pointOf point) (forcesOf kinds numbers) _ h)
           go false e = wrong-kind e

@@ -1,10 +1,10 @@
-// The C face of `record`, `session` and `rope`: numbers and slices only, as include/wuthracomb.h has them.
-// A slice is a pointer and a length; every function answers document 01's number, or 255 for an
-// accepted call other than a delivery.
-//   words    a session as nine words
-//   records  one record, a log, the records of one step
-//   calls    opening, reading, delivery, replay
-//   show     the digest, and the shown place of a carrier
+// The C face of `record`, `session` and `rope`: numbers and slices only, as include/wuthracomb.h
+// has them. A slice is a pointer and a length; every function answers document 01's number, or 255
+// for an accepted call other than a delivery.
+//   words      a session as nine words
+//   records    one record, a log, the records of one step
+//   calls      opening, reading, delivery, replay
+//   show       the digest, and the shown place of a carrier
 //   rope_ends  one step of a rope end
 
 mod calls;

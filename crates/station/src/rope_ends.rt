@@ -66,7 +66,8 @@ fn forces_of(kinds: &[u32], numbers: &[f64]) -> [Force; 8]
     requires few { ⌜ length (now kinds) ≤ 8 ⌝ }
     requires two { ⌜ length (now numbers) ≡ 2 * length (now kinds) ⌝ }
     ensures forces { λ r. ⌜
-        take (length (now (kinds .entry))) r ≡ forcesOf (now (kinds .entry)) (now (numbers .entry)) ⌝ }
+        take (length (now (kinds .entry))) r
+        ≡ forcesOf (now (kinds .entry)) (now (numbers .entry)) ⌝ }
 {
     let mut forces = [Force::Pull(0.0); 8];
     let mut i = 0;

@@ -18,7 +18,8 @@ is-finite-requires-2 c κs = search needs
 returns-2 : tie.Need-returns-2
 unfolding finitePoint
 returns-2 c =
-    rw (passed (c .before .before .is-finite .ensures) (c .before .if1 .left)) (c .is-finite2 .ensures)
+    let e = c .before in
+    rw (passed (e .before .is-finite .ensures) (e .if1 .left)) (c .is-finite2 .ensures)
 
 pub holds-spec : {M : Type 1} → statement M
 holds-spec = tie.close (tie.spec is-finite-requires returns is-finite-requires-2 returns-2)

@@ -42,7 +42,8 @@ loop-again c =
       search needs,
       rw (c .on .ensures)
           (p .loop .inv .1
-          ∙ sum-next (a .t2) (a .count) (p .loop .i) (search needs) (a .self) (p .loop .sum) (search needs)),
+          ∙ sum-next (a .t2) (a .count) (p .loop .i) (search needs) (a .self) (p .loop .sum)
+          (search needs)),
     )
 
 returns : tie.Need-returns Inv-loop μ-loop

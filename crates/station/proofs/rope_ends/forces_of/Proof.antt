@@ -70,12 +70,12 @@ loop-again c =
     let p = c .before .before .before .before .before in
     let a = p .before .before .before .args in
     let kinds = now (a .kinds) in
-    let numbers = now (a .numbers) in (
+    let numbers = now (a .numbers) in
+    let array = p .loop .forces in
+    let put = force-put kinds (p .loop .i) (search needs) numbers array (search needs) in (
       search needs,
       simp length-set (p .loop .inv .1),
-      rw (c .force-of .ensures)
-          (sym (force-put kinds (p .loop .i) (search needs) numbers (p .loop .forces) (search needs))
-          ∙ p .loop .inv .2),
+      rw (c .force-of .ensures) (sym put ∙ p .loop .inv .2),
     )
 
 returns : tie.Need-returns Inv-loop μ-loop
