@@ -18,7 +18,8 @@ DONE = 255
 abbrev pub fills : {A : Type 0} → List A → Answer (List A) → Filled ℕ A
 fills = fill DONE (λ number. number)
 
--- A call that may change the state, the rows, the log and the session.
+-- A call that may change the state, the rows, the log and the session: what it answers, and how it
+-- leaves them.
 pub record Left : Type 0 where
   pub number : ℕ
   pub state : List ℤ
@@ -31,13 +32,14 @@ abbrev pub left : ℕ → List ℤ → List ℤ → List ℕ → List ℕ → Le
 left number state rows log session =
     record { number = number; state = state; rows = rows; log = log; session = session }
 
--- A refusal leaves all 'as before'; an accepted call what it makes, and its session's words.
+-- A refusal leaves all 'as before'; an accepted call what it makes, and the words of its session.
 abbrev pub leavesBy : {A : Type 0} → (A → ℕ) → (A → Session) → Lent → List ℕ → Answer (Made A)
     → Left
-leavesBy numberOf sessionOf l words (refused number) =
+leavesBy itsNumber itsSession l words (refused number) =
     left number (l .state) (l .rows) (l .log) words
-leavesBy numberOf sessionOf l words (accepted m) =
-    left (numberOf (m .result)) (m .state) (m .rows) (m .log) (sessionWords (sessionOf (m .result)))
+leavesBy itsNumber itsSession l words (accepted m) =
+    left (itsNumber (m .result)) (m .state) (m .rows) (m .log)
+    (sessionWords (itsSession (m .result)))
 
 -- Opening and a reading: 255 and the session.
 abbrev pub leavesRunning : Lent → List ℕ → Answer (Made Session) → Left
