@@ -1,10 +1,8 @@
 // Rope ends on the screen, only for show: a point pulled by up to eight forces. Document 02, §8.
 // No crate of a session stands on this one: nothing of it reaches the state or the digest.
 ghost use mathlib.Core.Path.{_≡_};
-ghost use Prim.Native.Nat.{_≤_};
 ghost use lib.Ieee.Scale.{finite};
-ghost use lib.ListN.{take};
-ghost use Rattle.rope.specs.Forces.{finiteForces, finiteForce, forceOn, sumOf};
+ghost use Rattle.rope.specs.Forces.{finiteForce, forceOn};
 ghost use Rattle.rope.specs.Step.{finitePoint, movedBy};
 ghost use Rattle.rope.specs.Says.{StepSays};
 use basis::Number;
@@ -74,22 +72,6 @@ impl Force {
     }
 }
 
-// Do the first `count` forces hold.
-fn forces_hold(forces: [Force; 8], count: usize) -> bool
-    requires few { ⌜ count ≤ 8 ⌝ }
-    ensures hold { λ r. ⌜ r ≡ finiteForces (take count forces) ⌝ }
-{
-    let mut i = 0;
-    while i < count {
-        let force = forces[i];
-        if !force.holds() {
-            return false;
-        }
-        i += 1;
-    }
-    true
-}
-
 impl Point {
     // 'force·0.02' and 'speed·0.02'
     const TICK: f64 = 0.02;
@@ -106,21 +88,6 @@ impl Point {
         is_finite(speed)
     }
 
-    // The sum of the first `count` forces on it, 'in list order starting from 0.0'.
-    fn pulled(self, forces: [Force; 8], count: usize) -> f64
-        requires few { ⌜ count ≤ 8 ⌝ }
-        ensures sum { λ r. ⌜ r ≡ sumOf self (take count forces) ⌝ }
-    {
-        let mut sum = 0.0;
-        let mut i = 0;
-        while i < count {
-            let force = forces[i];
-            sum = sum + force.on(self);
-            i += 1;
-        }
-        sum
-    }
-
     // Moved by a force: the speed first, then the place with the new speed.
     fn moved(self, force: f64) -> Point
         ensures moved { λ r. ⌜ r ≡ movedBy self force ⌝ }
@@ -134,7 +101,8 @@ impl Point {
         }
     }
 
-    // One step under the first `count` forces; what can't be used is refused as 18.
+    // One step under the first `count` forces, 'added in list order starting from 0.0'; what can't be
+    // used is refused as 18.
     pub fn step(self, forces: [Force; 8], count: usize) -> Stepped
         ensures stepped { λ r. ⌜ StepSays self forces count r ⌝ }
     {
@@ -144,10 +112,17 @@ impl Point {
         if !self.holds() {
             return Stepped::Refused(Number::ROPE);
         }
-        if !forces_hold(forces, count) {
-            return Stepped::Refused(Number::ROPE);
+        let mut sum = 0.0;
+        let mut i = 0;
+        while i < count {
+            let force = forces[i];
+            if !force.holds() {
+                return Stepped::Refused(Number::ROPE);
+            }
+            sum = sum + force.on(self);
+            i += 1;
         }
-        let next = self.moved(self.pulled(forces, count));
+        let next = self.moved(sum);
         if !next.holds() {
             return Stepped::Refused(Number::ROPE);
         }
