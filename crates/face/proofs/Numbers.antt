@@ -1,5 +1,5 @@
 -- The ten functions, number by number.
-use Prim.Native.Nat.{ℕ, _+_, _-_, _<_, _≤_}
+use Prim.Native.Nat.{ℕ, _-_, _<_, _≤_}
 use mathlib.Core.Path.{_≡_, refl, sym, ap, subst, _∙_}
 use mathlib.Core.Logic.{_↔_, _⊎_, ⊎-elim, inl, inr, Iff·trans}
 use mathlib.Core.Bool.{Bool, true, false, cond, _&&_}
@@ -44,9 +44,10 @@ use Rattle.station.specs.Left.{Left, left, fills, leavesRunning, leavesDelivere
 use Rattle.station.specs.Says.{LogSoundSays, DeliverSays}
 use Rattle.station.specs.Words.{sessionOf}
 use Rattle.station.proofs.Statements.{nineWords}
-use Rattle.face.specs.Numbers.{openNumbers, readingNumbers, deliverNumbers, soundNumbers}
+use Rattle.face.specs.Numbers.{openNumbers, readingNumbers, placeNumbers, deliverNumbers}
+use Rattle.face.specs.Numbers.{soundNumbers}
 use Rattle.face.specs.Statements.{ExactlyWhen}
-use Rattle.face.specs.Table.{Table, Fills, Leaves, Gives, _when_or_, done}
+use Rattle.face.specs.Table.{Table, Fills, Leaves, Gives}
 use Rattle.face.proofs.Rungs.{By, told, like, rung, passed, end, joined, answers-by}
 use Rattle.face.proofs.Rungs.{else-fact, else-le, else-lt, else-eq, else-or, absent, present}
 
@@ -72,7 +73,7 @@ module _ (l : Lent) (words : List ℕ) (out : Left) where
       → By 2 all-done (λ m. m ≡ this) order table
       → Leaves 2 l words table out (leavesRunning l words (accepted this))
   opened-by order {this} =
-      answers-by (λ o. o .number) all-done (leavesRunning l words)
+      answers-by {Right = λ m. m ≡ this} (λ o. o .number) all-done (leavesRunning l words)
       (λ n. left n (l .state) (l .rows) (l .log) words) (leavesRunning l words (accepted this))
       numbered (λ n. refl) (λ m e. inl (ap (λ k. leavesRunning l words (accepted k)) e)) order out
     where
@@ -173,24 +174,16 @@ module _ (s : Session) (l : Lent) (r : Record) (are : Bytes (l .log)) (sound : S
       row : (soundState (worldIn s l) (rowIn s l (r .step)) ≡ true) ↔ RowSound s l (r .step)
       row = state-sound (worldIn s l) (rowIn s l (r .step))
 
-  abbrev rest : Table
-  rest =
-      1 when HeldHere s l r (r .lever) or
-      6 when (NoneHere s l r → ⊥) or
-      7 when (r .step + 64 < s .clock .steps) or
-      8 when (2048 ≤ s .held) or
-      14 when ((r .step < s .clock .steps) × (RowSound s l (r .step) → ⊥)) or
-      done 0
-
   by-place : {Right : Made Delivery → Type 0} → Right (unchanged s l) → Right (takeIn s l r)
-      → By 1 (λ m. m .result .number) Right (placeOrder s l r) rest
+      → By 1 (λ m. m .result .number) Right (placeOrder s l r)
+      (placeNumbers s l r)
   unfolding takeIn
   by-place {Right} same new = go (leverAt (r .step) (r .carrier) (heldIn s l)) refl
     where
       Placed : Option ℕ → Type 0
       Placed o =
           By 1 (λ m. m .result .number) Right
-          (byLever r (foundIn s l r) (unchanged s l) (takeIn s l r) o) rest
+          (byLever r (foundIn s l r) (unchanged s l) (takeIn s l r) o) (placeNumbers s l r)
 
       go : (o : Option ℕ) → leverAt (r .step) (r .carrier) (heldIn s l) ≡ o → Placed o
       go (some lever) e = by-lever (eqb lever (r .lever)) refl
@@ -203,15 +196,15 @@ module _ (s : Session) (l : Lent) (r : Record) (are : Bytes (l .log)) (sound : S
               passed q (present refl same (subst (HeldHere s l r) (eqb-true _ _ q) at))
           by-lever false q =
               absent (λ h. eqb-false _ _ q (some-one (sym e ∙ here (r .lever) .1 h)))
-              (rung (lit≤ tt) (lit≤ tt) (λ _ f. f lever at, λ _. q) λ k. never k q)
+              (rung refl (λ _ f. f lever at, λ _. q) λ k. never k q)
       go none e =
           let nothing : NoneHere s l r =
           λ lever h. Option·none-ne-some lever (sym e ∙ here lever .1 h) in
           absent (nothing (r .lever))
           (absent (λ f. f nothing)
-          (rung (lit≤ tt) (lit≤ tt) (else-le _ _) λ _.
-          rung (lit≤ tt) (lit≤ tt) (else-lt _ _) λ _.
-          rung (lit≤ tt) (lit≤ tt) row-fails λ _. end refl new))
+          (rung refl (else-le _ _) λ _.
+          rung refl (else-lt _ _) λ _.
+          rung refl row-fails λ _. end refl new))
 
 -- The state before the last step isn't sound: of a sound session, its row isn't.
 row-before : (s : Session) (l : Lent) → Sound s l
@@ -239,12 +232,12 @@ pub open-by : (yard : Yard) (t : ℕ) (l : Lent) (words : List ℕ)
     → By 2 all-done (λ m. m ≡ opened yard t l) (openFace yard t l words) (openNumbers yard l words)
 unfolding openFace openOrder worldOrder andThen
 open-by yard t l words =
-    rung (lit≤ tt) (lit≤ tt) (else-fact _ (ranges yard)) λ fit.
-    rung (lit≤ tt) (lit≤ tt) (else-eq _ _) λ _.
+    rung refl (else-fact _ (ranges yard)) λ fit.
+    rung refl (else-eq _ _) λ _.
     passed fit
-    (rung (lit≤ tt) (lit≤ tt) (else-fact _ (room-fits yard l)) λ _.
+    (rung refl (else-fact _ (room-fits yard l)) λ _.
     like (joined (cellsHold (l .cells)) (sizesHold yard (l .boxes)) _ _ _)
-    (rung (lit≤ tt) (lit≤ tt) (else-fact _ (valid yard (l .cells) (l .boxes))) λ _.
+    (rung refl (else-fact _ (valid yard (l .cells) (l .boxes))) λ _.
     end refl refl))
 
 pub reading-by : (t : ℕ) (l : Lent) (words : List ℕ) → let s : Session = sessionOf words in
@@ -252,11 +245,11 @@ pub reading-by : (t : ℕ) (l : Lent) (words : List ℕ) → let s : Session = s
     (readingNumbers t l words)
 unfolding readingFace readingOrder clockOrder andThen
 reading-by t l words =
-    rung (lit≤ tt) (lit≤ tt) (else-eq _ _) λ _.
-    rung (lit≤ tt) (lit≤ tt) (else-fact _ (sound-means (sessionOf words) l)) λ ok.
+    rung refl (else-eq _ _) λ _.
+    rung refl (else-fact _ (sound-means (sessionOf words) l)) λ ok.
     passed (good (sessionOf words) l ok .clock)
-    (rung (lit≤ tt) (lit≤ tt) (else-le _ _) λ _.
-    rung (lit≤ tt) (lit≤ tt) (else-le _ _) λ _. end refl refl)
+    (rung refl (else-le _ _) λ _.
+    rung refl (else-le _ _) λ _. end refl refl)
 
 pub deliver-by : (bytes : List ℕ) (l : Lent) (words : List ℕ) → Bytes (l .log)
     → let s : Session = sessionOf words in
@@ -265,12 +258,12 @@ pub deliver-by : (bytes : List ℕ) (l : Lent) (words : List ℕ) → Bytes (l .
     (deliverFace bytes l words) (deliverNumbers bytes l words)
 unfolding deliverFace deliverOrder readOrder limitsOrder andThen
 deliver-by bytes l words are =
-    rung (lit≤ tt) (lit≤ tt) (else-eq _ _) λ nine.
-    rung (lit≤ tt) (lit≤ tt) (else-fact _ (sound-means (sessionOf words) l)) λ ok.
-    rung (lit≤ tt) (lit≤ tt) (else-fact _ (formed bytes)) λ _.
-    rung (lit≤ tt) (lit≤ tt) (else-lt _ _) λ _.
-    rung (lit≤ tt) (lit≤ tt) (else-le _ _) λ _.
-    rung (lit≤ tt) (lit≤ tt) (else-lt _ _) λ _.
+    rung refl (else-eq _ _) λ nine.
+    rung refl (else-fact _ (sound-means (sessionOf words) l)) λ ok.
+    rung refl (else-fact _ (formed bytes)) λ _.
+    rung refl (else-lt _ _) λ _.
+    rung refl (else-le _ _) λ _.
+    rung refl (else-lt _ _) λ _.
     by-place (sessionOf words) l (recordOf bytes) are (sound-means (sessionOf words) l .0 ok)
     (inr (refl, eqb-true _ _ nine)) (inl refl)
 
@@ -285,42 +278,41 @@ exactlyWhen =
           delivered-by l words out bytes says (deliver-by bytes l words are);
       replay = λ yard steps cells boxes state log out says.
           filled-by state out _ says
-          (rung (lit≤ tt) (lit≤ tt) (else-fact _ (ranges yard)) λ _.
-          rung (lit≤ tt) (lit≤ tt) (else-fact _ (lengths-fit yard cells boxes state)) λ _.
+          (rung refl (else-fact _ (ranges yard)) λ _.
+          rung refl (else-fact _ (lengths-fit yard cells boxes state)) λ _.
           like (joined (cellsHold cells) (sizesHold yard boxes) _ _ _)
-          (rung (lit≤ tt) (lit≤ tt) (else-fact _ (valid yard cells boxes)) λ _.
-          rung (lit≤ tt) (lit≤ tt) (else-fact _ (log-valid (yard .b) log)) λ _.
-          rung (lit≤ tt) (lit≤ tt) (else-le _ _) λ _. end refl refl));
+          (rung refl (else-fact _ (valid yard cells boxes)) λ _.
+          rung refl (else-fact _ (log-valid (yard .b) log)) λ _.
+          rung refl (else-le _ _) λ _. end refl refl));
       digest = λ l words before out says.
           filled-by before out _ says
-          (rung (lit≤ tt) (lit≤ tt) (else-eq _ _) λ _.
-          rung (lit≤ tt) (lit≤ tt) (else-eq _ _) λ _.
-          rung (lit≤ tt) (lit≤ tt) (else-fact _ (sound-means (sessionOf words) l)) λ _.
+          (rung refl (else-eq _ _) λ _.
+          rung refl (else-eq _ _) λ _.
+          rung refl (else-fact _ (sound-means (sessionOf words) l)) λ _.
           end refl refl);
       shown = λ i l words before out says.
           filled-by before out _ says
-          (rung (lit≤ tt) (lit≤ tt) (else-eq _ _) λ _.
-          rung (lit≤ tt) (lit≤ tt) (else-eq _ _) λ _.
-          rung (lit≤ tt) (lit≤ tt) (else-fact _ (sound-means (sessionOf words) l)) λ ok.
-          rung (lit≤ tt) (lit≤ tt) (else-lt _ _) λ _.
-          rung (lit≤ tt) (lit≤ tt)
-          (row-before (sessionOf words) l (sound-means (sessionOf words) l .0 ok)) λ _.
+          (rung refl (else-eq _ _) λ _.
+          rung refl (else-eq _ _) λ _.
+          rung refl (else-fact _ (sound-means (sessionOf words) l)) λ ok.
+          rung refl (else-lt _ _) λ _.
+          rung refl (row-before (sessionOf words) l (sound-means (sessionOf words) l .0 ok)) λ _.
           end refl refl);
       logSound = log-numbers;
       stepRecords = λ log step before out says.
           filled-by before out _ says
-          (rung (lit≤ tt) (lit≤ tt) (else-eq _ _) λ _. end refl refl);
+          (rung refl (else-eq _ _) λ _. end refl refl);
       readRecord = λ bytes before out says.
           filled-by before out _ says
-          (rung (lit≤ tt) (lit≤ tt) (else-fact _ (formed bytes)) λ _.
-          rung (lit≤ tt) (lit≤ tt) (else-lt _ _) λ _.
-          rung (lit≤ tt) (lit≤ tt) (else-le _ _) λ _.
-          rung (lit≤ tt) (lit≤ tt) (else-lt _ _) λ _.
-          rung (lit≤ tt) (lit≤ tt) (else-eq _ _) λ _. end refl refl);
+          (rung refl (else-fact _ (formed bytes)) λ _.
+          rung refl (else-lt _ _) λ _.
+          rung refl (else-le _ _) λ _.
+          rung refl (else-lt _ _) λ _.
+          rung refl (else-eq _ _) λ _. end refl refl);
       writeRecord = λ step carrier lever before out says.
           filled-by before out _ says
-          (rung (lit≤ tt) (lit≤ tt) (else-lt _ _) λ _.
-          rung (lit≤ tt) (lit≤ tt) (else-le _ _) λ _.
-          rung (lit≤ tt) (lit≤ tt) (else-lt _ _) λ _.
-          rung (lit≤ tt) (lit≤ tt) (else-eq _ _) λ _. end refl refl);
+          (rung refl (else-lt _ _) λ _.
+          rung refl (else-le _ _) λ _.
+          rung refl (else-lt _ _) λ _.
+          rung refl (else-eq _ _) λ _. end refl refl);
     }

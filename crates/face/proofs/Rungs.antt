@@ -8,7 +8,7 @@ use lib.Dec.{leb, ltb, eqb}
 use Rattle.basis.specs.Order.{Answer, refused, accepted, Order, check, give, answer}
 use Rattle.basis.proofs.Ladder.{not-so}
 use Rattle.basis.proofs.Order.{passes, fails, gives, given, apart}
-use Rattle.basis.proofs.Tests.{never, says-le, says-lt, says-eq}
+use Rattle.basis.proofs.Tests.{never, says-le, says-lt, says-eq, says-two}
 use Rattle.face.specs.Table.{Table, _when_or_, done, Gives, Answers}
 
 -- Where a test fails, from what it says.
@@ -63,12 +63,12 @@ module _ {A : Type 0} {least : ℕ} {number-of : A → ℕ} {Right : A → Type 
         accepts = λ a q. b .accepts a (sym e ∙ q);
       }
 
-  -- A test that says its fact.
+  -- A test that says its fact, with a number from `least` to 14.
   pub rung : {t : Bool} {Q : Type 0} {m : ℕ} {rest : Order A} {table : Table}
-      → least ≤ m → m ≤ 14 → (t ≡ false) ↔ Q
+      → (leb least m && leb m 14) ≡ true → (t ≡ false) ↔ Q
       → (t ≡ true → By least number-of Right rest table)
       → By least number-of Right (check t m rest) (m when Q or table)
-  rung {t} {Q} {m} {rest} {table} low high q then = go t refl
+  rung {t} {Q} {m} {rest} {table} told-by q then = go t refl
     where
       go : (u : Bool) → t ≡ u → By least number-of Right (check t m rest) (m when Q or table)
       go true e =
@@ -93,7 +93,8 @@ module _ {A : Type 0} {least : ℕ} {number-of : A → ℕ} {Right : A → Type 
             );
             refusals = λ n k.
                 let same : m ≡ n = cc in
-                subst (λ x. (least ≤ x) × (x ≤ 14)) same (low, high);
+                subst (λ x. (least ≤ x) × (x ≤ 14)) same
+                (says-two (says-le least m) (says-le m 14) .0 told-by);
             accepts = λ a k. apart (sym off ∙ k);
           }
 
