@@ -20,7 +20,8 @@ answer (check true number rest) = answer rest
 answer (check false number rest) = refused number
 answer (give a) = accepted a
 
--- The first test of the order that fails has this number.
+-- The first test of the order that fails has this number. In `check true 14 (check false 11 rest)`
+-- the test of 14 holds, `later`, and that of 11 fails, `here`: `later here` is `First 11` of it.
 pub data First {A : Type 0} (number : ℕ) : Order A → Type 0 where
   here : {rest : Order A} → First number (check false number rest)
   later : {earlier : ℕ} {rest : Order A} → First number rest
@@ -41,6 +42,6 @@ unfoldable pub andThen : {A B : Type 0} → Order A → (A → Order B) → Orde
 andThen (check test number rest) next = check test number (andThen rest next)
 andThen (give a) next = next a
 
--- 'any two outcomes allowed by it coincide', of a contract: `says a` is that it allows the outcome a.
+-- 'any two outcomes allowed by it coincide', of a contract: `says a` is that it allows outcome a.
 abbrev pub Determines : {O : Type 0} → (O → Type 0) → Type 0
 Determines {O} says = (a b : O) → says a → says b → a ≡ b

@@ -32,7 +32,7 @@ use Rattle.course.proofs.Calls.{is-unread, is-read, is-malformed, is-pl
 use Rattle.course.proofs.Kept.{Kept, kept, good-after, no-fault, take-row}
 use Rattle.course.proofs.History.{clock-is, held-again}
 use Rattle.course.proofs.Swap.{places-differ, swap}
-use Rattle.course.proofs.Words.{flat-length, flat-row, flat-saved, flat-back}
+use Rattle.course.proofs.Words.{flat-length, flat-row, flat-saved}
 use Rattle.course.proofs.Words.{flatten-replicate, fits-after}
 
 module _ {world : World} (law : Lawful world) where
@@ -162,7 +162,6 @@ course =
             long = flat-length fits;
             row = flat-row fits;
             saved = flat-saved fits;
-            back = flat-back fits;
           };
       opened = λ words first. flatten-replicate (words .width) rowCount (words .zero);
     }

@@ -1,17 +1,17 @@
 -- Laws of rows laid end to end: a row where it lies, a row stored, rows of zeros, and back.
 use Prim.Native.Nat.{ℕ, zero, suc, _+_, _*_, _%_, _<_}
-use mathlib.Core.Path.{_≡_, refl, sym, subst, _∙_}
-use mathlib.Core.List.{List, [], _∷_, _++_, append-assoc, flatten}
+use mathlib.Core.Path.{_≡_, sym, subst, _∙_}
+use mathlib.Core.List.{List, _++_, append-assoc, flatten}
 use native.Mathlib.Nat.{zero-mul, zero-add, not-suc-le-zero, le-of-eq}
 use native.Mathlib.Omega.{arith}
-use lib.ListN.{length, take, drop, getD, set, replicate, length-append, length-drop, length-set}
-use lib.ListN.{length-replicate, take-append-drop, replicate-append-replicate}
+use lib.ListN.{length, take, drop, getD, set, replicate, length-append, length-set}
+use lib.ListN.{length-replicate, replicate-append-replicate}
 use lib.Seq.{paste, take-at, drop-at, take-all, take-append-add, drop-append-add}
 use Rattle.basis.specs.Numbers.{rowCount}
 use Rattle.record.specs.declared.bytes.Record.{Record}
 use Rattle.course.specs.World.{leversOf, after, rowsAfter}
 use Rattle.course.specs.Session.{Made, oneStep, steps, rowOf}
-use Rattle.course.specs.Words.{WordWorld, worldOf, Sized, Wide, done, more, Fits, rowsIn}
+use Rattle.course.specs.Words.{WordWorld, worldOf, Sized, Wide, done, more, Fits}
 use Rattle.course.proofs.Rows.{madeAfter}
 
 next-row : (i width : ℕ) → suc i * width ≡ width + i * width
@@ -78,25 +78,7 @@ module _ {A : Type 0} {width : ℕ} where
       )
       (simp append-assoc)
 
-  -- The rows in a flat list of rows are those rows.
-  pub rows-in : {rows : List (List A)} → Wide width rows
-      → rowsIn width (length rows) (flatten rows) ≡ rows
-  unfolding flatten rowsIn
-  rows-in done = refl
-  rows-in (more {row = row} {rows = rows} w wide) =
-      rw (take-at row (flatten rows) width w, drop-at row (flatten rows) width w, rows-in wide)
-
 module _ {A : Type 0} (width : ℕ) where
-  -- A flat list cut into rows and laid end to end is that list.
-  pub flatten-rows : (count : ℕ) (flat : List A) → length flat ≡ count * width
-      → flatten (rowsIn width count flat) ≡ flat
-  unfolding flatten rowsIn
-  flatten-rows zero [] e = refl
-  flatten-rows zero (word ∷ flat) e = absurd (omega (arith, zero-mul width))
-  flatten-rows (suc count) flat e =
-      rw (flatten-rows count (drop width flat) (omega (arith, length-drop width flat)))
-      (take-append-drop width flat)
-
   -- Rows of one word over and over are that word over and over.
   pub flatten-replicate : (n : ℕ) (word : A)
       → flatten (replicate n (replicate width word)) ≡ replicate (n * width) word
@@ -122,9 +104,6 @@ module _ {A : Type 0} {words : WordWorld A} {made : Made (worldOf words)}
       ≡ paste (flatten (made .rows)) (t % rowCount * words .width) (made .state) (words .width)
   flat-saved log t =
       store-at (t % rowCount) (made .state) (fits .rows) (omega (arith, fits .many)) (fits .state)
-
-  pub flat-back : rowsIn (words .width) rowCount (flatten (made .rows)) ≡ made .rows
-  flat-back = rw (fits .many) at (rows-in (fits .rows))
 
 -- Steps keep the width.
 module _ {A : Type 0} {words : WordWorld A} (sized : Sized words) where

@@ -24,7 +24,7 @@ use Rattle.course.specs.Session.{Session, Made, opening, oneStep, rowOf}
 use Rattle.course.specs.Calls.{Call, reading, delivery, read, taken, held}
 use Rattle.course.specs.Calls.{readOn, takeIn, answerTo, next, run, sessionAfter, Reached}
 use Rattle.course.specs.Calls.{readingsOf, foundIn, Holds}
-use Rattle.course.specs.Words.{WordWorld, worldOf, Sized, Fits, rowsIn}
+use Rattle.course.specs.Words.{WordWorld, worldOf, Sized, Fits}
 
 -- Demand 2, of a session as in demand 3.
 pub record Demand2 {world : World} (s : Session world) : Type 0 where
@@ -162,6 +162,7 @@ pub record ExactlyWhen {world : World} (s : Session world) : Type 0 where
 -- The saved rows laid end to end: 'The saved rows are 64 states, 320·B words'
 pub record FlatRows {A : Type 0} (words : WordWorld A) (made : Made (worldOf words))
     : Type 0 where
+  -- '320·B words'
   pub long : length (flatten (made .rows)) ≡ rowCount * words .width
   -- Row t mod 64 lies at its number times the width.
   pub row : (t : ℕ)
@@ -171,10 +172,8 @@ pub record FlatRows {A : Type 0} (words : WordWorld A) (made : Made (worldOf wor
   pub saved : (log : List Record) (t : ℕ)
       → flatten (oneStep log t made .rows)
       ≡ paste (flatten (made .rows)) (t % rowCount * words .width) (made .state) (words .width)
-  -- The flat list says which rows they are.
-  pub back : rowsIn (words .width) rowCount (flatten (made .rows)) ≡ made .rows
 
--- All of it, of any lawful world.
+-- All of it, of any lawful world: the records above, of every session as in demand 3.
 pub record OnEveryWorld : Type 1 where
   pub demand2 : (world : World) → Lawful world → (s : Session world) → Reached s → Demand2 s
   pub replay : (world : World) → Lawful world → (s : Session world) → Reached s → Replay s

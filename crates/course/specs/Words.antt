@@ -1,10 +1,10 @@
 -- Document 01, 'Going back', as words: worlds whose states are words of one width, and their rows.
-use Prim.Native.Nat.{ℕ, zero, suc}
+use Prim.Native.Nat.{ℕ}
 use mathlib.Core.Path.{_≡_}
 use mathlib.Core.Bool.{Bool}
 use mathlib.Core.List.{List, [], _∷_}
 use mathlib.Core.Option.{Option}
-use lib.ListN.{length, take, drop, replicate}
+use lib.ListN.{length, replicate}
 use Rattle.basis.specs.Numbers.{rowCount}
 use Rattle.course.specs.World.{World}
 use Rattle.course.specs.Session.{Made}
@@ -51,8 +51,3 @@ pub record Fits {A : Type 0} (words : WordWorld A) (made : Made (worldOf words))
   pub state : length (made .state) ≡ words .width
   pub rows : Wide (words .width) (made .rows)
   pub many : length (made .rows) ≡ rowCount
-
--- A flat list as so many rows of one width. (The other way, `flatten` lays rows end to end.)
-unfoldable pub rowsIn : {A : Type 0} → ℕ → ℕ → List A → List (List A)
-rowsIn width zero flat = []
-rowsIn width (suc count) flat = take width flat ∷ rowsIn width count (drop width flat)

@@ -12,9 +12,9 @@ use Rattle.yard.specs.Step.{step}
 use Rattle.demands.specs.Lettered.{Lettered}
 
 pub lettered : Lettered
-unfolding answer clockOrder soundClock due ticked every wall share covers noWall free pushOf cutSpeed
-    brake newSpeed toward clearOn walk distance slide step recordOf bytesOf wellFormed limitsOrder
-    readOrder writeOrder
+unfolding answer clockOrder soundClock due ticked every wall share covers noWall free pushOf
+    cutSpeed brake newSpeed toward clearOn walk distance slide step recordOf bytesOf wellFormed
+    limitsOrder readOrder writeOrder
 lettered =
     record {
       a = refl;

@@ -2,7 +2,6 @@
 use Prim.Native.Nat.{ℕ, _+_, _<_, _≤_}
 use mathlib.Core.Path.{_≡_, refl, sym, _∙_}
 use mathlib.Core.Logic.{_↔_, Iff·trans}
-use native.Mathlib.Omega.{arith}
 use lib.Dec.{leb}
 use Rattle.basis.specs.Numbers.{FAULT, BACKWARD, END, mostSteps, stepLength}
 use Rattle.basis.specs.Order.{Answer, refused, accepted, Order, check, give, answer, andThen}
@@ -15,7 +14,6 @@ use Rattle.clock.proofs.Readings.{equal-reading}
 use Rattle.fleet.specs.Run.{runSaving}
 use Rattle.session.specs.declared.Session.{Session}
 use Rattle.session.specs.declared.Running.{Running}
-use Rattle.session.specs.declared.Running.the-variants as running
 use Rattle.session.specs.Lent.{Lent, Made, tells, leaves, asBefore}
 use Rattle.session.specs.Sound.{sound}
 use Rattle.session.specs.Calls.{readOn, readingOrder}
@@ -114,7 +112,8 @@ module _ (session : Session) (t : ℕ) (l : Lent) (out : Made Running)
         backward = Iff·trans (by _ (refused 11) refl) (is-backward session t l);
         end = Iff·trans (by _ (refused 12) refl) (is-end session t l);
         read = Iff·trans (by _ (accepted (new session t l)) refl)
-            (Iff·trans (is-read session t l _) (λ (s, h, k, e). (s, h, k), λ (s, h, k). (s, h, k, refl)));
+            (Iff·trans (is-read session t l _)
+            (λ (s, h, k, e). (s, h, k), λ (s, h, k). (s, h, k, refl)));
         equal = λ s e. by _ (accepted (asBefore session l)) refl .1
             (rw e (equal-given session l s));
       }

@@ -8,7 +8,7 @@ use native.Mathlib.Omega.{arith}
 use borrow.Author.Tests.{eqb-true, eqb-false}
 use lib.Dec.{ltb, eqb}
 use Rattle.basis.specs.Numbers.{FAULT, CARRIER}
-use Rattle.basis.specs.Order.{Answer, refused, accepted, Order, check, give, answer}
+use Rattle.basis.specs.Order.{refused, accepted, Order, check, give, answer}
 use Rattle.basis.proofs.Tests.{says-lt}
 use Rattle.basis.proofs.Ladder.{differs, not-lt, here-iff, both-iff, later-iff, pass-iff, give-iff}
 use Rattle.basis.proofs.Ladder.{lacks-give, lacks-check}
@@ -25,7 +25,6 @@ use Rattle.session.specs.declared.Session.{Session}
 use Rattle.session.specs.declared.Digested.{Digested}
 use Rattle.session.specs.declared.Digested.the-variants as digested
 use Rattle.session.specs.Lent.{Lent, worldIn}
-use Rattle.session.specs.Sound.{sound}
 use Rattle.session.specs.Calls.{digestOrder, shownOrder, shownOf, previous, rowIn}
 use Rattle.session.specs.Answers.{digestedOf}
 use Rattle.session.specs.Says.{DigestSays, ShownSays}
@@ -157,5 +156,6 @@ module _ (session : Session) (l : Lent) where
           fault = Iff·trans (by (shown.Refused 14)) shown-fault;
           carrier = Iff·trans (by (shown.Refused 3)) shown-carrier;
           place = Iff·trans (by (shown.At at))
-              (Iff·trans (shown-given at) (λ (s, h, f, e). (s, h, f), λ (s, h, f). (s, h, f, refl)));
+              (Iff·trans (shown-given at)
+              (λ (s, h, f, e). (s, h, f), λ (s, h, f). (s, h, f, refl)));
         }

@@ -1,7 +1,7 @@
 -- A world by opening's order, number by number: with any test of lengths and anything behind it, so
 -- of opening and of replay, and of the C face.
 use Prim.Native.Nat.{ℕ}
-use mathlib.Core.Path.{_≡_, refl, sym, _∙_}
+use mathlib.Core.Path.{_≡_, refl}
 use mathlib.Core.Logic.{_↔_, _⊎_, _≢_, ⊎-elim, inl, inr, Iff·trans}
 use mathlib.Core.Bool.{Bool, true}
 use mathlib.Core.List.{List}

@@ -27,8 +27,8 @@ sessionIn h = h .result
 abbrev pub lentIn : World → Handed → Lent
 lentIn world h = lent (world .cells) (world .boxes) (h .state) (h .rows) (h .log)
 
--- What an answer hands on: an accepted one its session and what it made, a refusal all as it was. So
--- a delivery in h that is answered 7 hands on h, and one that is taken the new buffers and session.
+-- What an answer hands on: an accepted one its session and what it made, a refusal all as it was.
+-- So a delivery in h that is answered 7 hands on h, one that is taken the new buffers and session.
 abbrev pub handsOn : {A : Type 0} → (A → Session) → Handed → Answer (Made A) → Handed
 handsOn itsSession h (accepted m) = tells itsSession m
 handsOn itsSession h (refused number) = h
@@ -37,7 +37,8 @@ handsOn itsSession h (refused number) = h
 abbrev pub deliveryAnswer : World → Handed → List ℕ → Answer (Made Delivery)
 deliveryAnswer world h bytes = answer (deliverOrder (sessionIn h) (lentIn world h) bytes)
 
--- What a call hands on.
+-- What a call hands on, given h: of a reading the session is the answer itself, of a delivery the
+-- session in it.
 unfoldable pub next : World → Handed → Call → Handed
 next world h (reading t) =
     handsOn (λ session. session) h (answer (readingOrder (sessionIn h) (lentIn world h) t))

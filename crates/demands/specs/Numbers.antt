@@ -1,6 +1,6 @@
 -- 'each given exactly when its rule says' (demand 1): the numbers of each call of `session`, one
 -- field a number, in plain facts. On the left what comes out, all lent as before; on the right what
--- has passed, in document 01's order, and on a line of its own what fails. No test stands among them.
+-- has passed, in document 01's order, and last what fails. No test stands among them.
 use Prim.Native.Nat.{ℕ, _+_, _-_, _<_, _≤_}
 use mathlib.Core.Path.{_≡_}
 use mathlib.Core.Logic.{_↔_, _⊎_, _≢_}
@@ -61,7 +61,7 @@ pub record ReadingNumbers (session : Session) (t : ℕ) (l : Lent) (out : Made R
   pub read : (out ≡ tells running.Open (readOn session l (givenBy 20000 (session .clock) t)))
       ↔ (Sound session l × (session .clock .last ≤ t)
       × (session .clock .steps + due 20000 (session .clock) t ≤ 180000))
-  -- 'An equal reading is accepted and makes no step': session, state, rows and log stay as they were.
+  -- 'An equal reading is accepted and makes no step': session, state, rows and log stay as before.
   pub equal : Sound session l → t ≡ session .clock .last → out ≡ asBefore (running.Open session) l
 
 -- 'Delivery: 14, 2, 3, 4, 5, then 1 or 6, then 7, 8, and last 14 for the row to be brought back',
@@ -135,8 +135,8 @@ pub record DigestNumbers (session : Session) (l : Lent) (out : Digested) : Type 
   pub value : (out ≡ digested.Value (digestOf (stateBytes (session .clock .steps) (l .state))))
       ↔ Sound session l
 
--- The shown place, 'Order: 14, 3, then 14 for the row', number by number; i is the carrier. 'row n-1;
--- at n = 0, p is c': then no row is used.
+-- The shown place, 'Order: 14, 3, then 14 for the row', number by number; i is the carrier. 'row
+-- n-1; at n = 0, p is c': then no row is used.
 pub record ShownNumbers (session : Session) (i : ℕ) (l : Lent) (out : Shown) : Type 0 where
   -- 14: not sound; or last, the row before the last step isn't.
   pub fault : (out ≡ shown.Refused 14)

@@ -5,8 +5,8 @@ use mathlib.Core.Logic.{_↔_, _≢_}
 use mathlib.Core.Bool.{true}
 use mathlib.Core.List.{List}
 use mathlib.Core.Option.{Option}
-use lib.IntN.{ℤ, pos}
-use lib.ListN.{length, replicate}
+use lib.IntN.{ℤ}
+use lib.ListN.{length}
 use Rattle.basis.specs.Numbers.{rowCount}
 use Rattle.basis.specs.Order.{Determines}
 use Rattle.record.specs.declared.bytes.Record.{Record}

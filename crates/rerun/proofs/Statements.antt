@@ -83,6 +83,6 @@ program =
 pub examples : Examples
 unfolding programOrder answer soundLog readOrder limitsOrder wellFormed recordOf precedes stepsPast
     run stepAll stepTo stepOne carrier wordsOf put freeFor startTo leverAt sizeOf
-    step newSpeed pushOf cutSpeed brake slide distance walk clearOn toward free noWall covers share wall
-    every decimalTo wordText wordsText linesOf
+    step newSpeed pushOf cutSpeed brake slide distance walk clearOn toward free noWall covers share
+    wall every decimalTo wordText wordsText linesOf
 examples = record { brake = refl; empty = refl; refused = refl }

@@ -32,7 +32,9 @@ abbrev pub left : ℕ → List ℤ → List ℤ → List ℕ → List ℕ → Le
 left number state rows log session =
     record { number = number; state = state; rows = rows; log = log; session = session }
 
--- A refusal leaves all 'as before'; an accepted call what it makes, and the words of its session.
+-- A refusal leaves all 'as before'; an accepted call what it makes, and its session's words. So a
+-- delivery that is refused 7 leaves 7 and what was lent, and one that is taken 0, the new state,
+-- rows and log, and the nine words of the new session.
 abbrev pub leavesBy : {A : Type 0} → (A → ℕ) → (A → Session) → Lent → List ℕ → Answer (Made A)
     → Left
 leavesBy itsNumber itsSession l words (refused number) =

@@ -153,7 +153,8 @@ module _ (yard : Yard) (cells : List ℕ) (size : Size) (x y : ℕ) where
       let p = share-unit x (size .w) column (and-left across down e) in
       let q = share-unit y (size .h) row (and-right across down e) in
       no-byte column row .1
-      (rw (p .2, q .2) at (c .squares (shared x column) (shared y row) (p .0) (p .1) (q .0) (q .1))))
+      (rw (p .2, q .2) at
+      (c .squares (shared x column) (shared y row) (p .0) (p .1) (q .0) (q .1))))
 
 -- Left of the yard and above it nothing is free.
 module _ (yard : Yard) (cells : List ℕ) (size : Size) where

@@ -27,7 +27,8 @@ covers size x y column row =
     share x (size .w) (256 * column) 256
     && share y (size .h) (256 * row) 256
 
--- 'no wall cell shares a unit square with it'
+-- 'no wall cell shares a unit square with it': of every row and column, no wall there is covered.
+-- `Clear` of specs/Facts.antt says it of each unit square of the box; `Free.means` that both agree.
 unfoldable pub noWall : Yard → List ℕ → Size → ℕ → ℕ → Bool
 noWall yard cells size x y =
     every (yard .h)

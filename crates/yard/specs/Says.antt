@@ -1,5 +1,5 @@
--- The contract of each public entry, by name: what was given, and what came out. A clause is nothing
--- but its name.
+-- The contract of each public entry, by name: what was given, and what came out. A clause is
+-- nothing but its name.
 use Prim.Native.Nat.{ℕ}
 use mathlib.Core.Path.{_≡_}
 use mathlib.Core.Bool.{Bool}

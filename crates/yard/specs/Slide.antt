@@ -20,6 +20,7 @@ clearOn free X speed x y units = free (toward speed x units) y
 clearOn free Y speed x y units = free x (toward speed y units)
 
 -- 'unit by unit .., stopping before the first place that isn't free': k are moved, n may follow.
+-- Where 1 and 2 units on are clear and 3 isn't, `walk clear 0 5` goes from 0 on to 1 and to 2: 2.
 unfoldable pub walk : (ℕ → Bool) → ℕ → ℕ → ℕ
 walk clear k zero = k
 walk clear k (suc n) = cond (clear (k + 1)) (walk clear (k + 1) n) k

@@ -93,7 +93,8 @@ returns-3 c =
     rw (c .wide3 .ensures)
     (sym
     (ap (fills _)
-    (shows-refused _ _ _ _ _ (long d) (fits d) (sym (told d) ∙ ap shownAnswer (n .number .given .1)))))
+    (shows-refused _ _ _ _ _ (long d) (fits d)
+    (sym (told d) ∙ ap shownAnswer (n .number .given .1)))))
 
 same-length : tie.Need-same-length
 same-length c = search needs
