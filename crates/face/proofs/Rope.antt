@@ -1,8 +1,8 @@
 -- `wuthracomb_rope_step`, number by number.
-use Prim.Native.Nat.{ℕ, _*_, _<_, _≤_}
+use Prim.Native.Nat.{ℕ, _*_, _<_}
 use mathlib.Core.Path.{_≡_, refl, sym, ap, subst, _∙_}
 use mathlib.Core.Logic.{_↔_, _⊎_, _≢_, inl, inr, ⊎-elim, Iff·trans}
-use mathlib.Core.Bool.{Bool, true, false, _&&_}
+use mathlib.Core.Bool.{Bool, true, false}
 use mathlib.Core.List.{List, [], _∷_, List·Memᴰ, List·Memᴰ·head, List·Memᴰ·tail}
 use mathlib.Core.List.{List·Memᴰ·not-nil, List·Memᴰ·cases-cons}
 use native.Mathlib.Omega.{arith}
@@ -13,7 +13,7 @@ use lib.ListN.{length, take}
 use Rattle.basis.specs.Numbers.{ROPE}
 use Rattle.basis.specs.Order.{Answer, refused, accepted, Order, check, give, answer, andThen}
 use Rattle.basis.specs.Order.{isAccepted}
-use Rattle.basis.proofs.Order.{passes, fails, gives, apart, stops, goes-on}
+use Rattle.basis.proofs.Order.{passes, fails, gives, stops, goes-on}
 use Rattle.basis.proofs.Tests.{never}
 use Rattle.rope.specs.Step.{stepOrder, movedUnder}
 use Rattle.rope.specs.Facts.{Rule18}

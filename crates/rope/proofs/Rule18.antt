@@ -11,7 +11,7 @@ use borrow.Author.Tests.{lt-leb, leb-false}
 use lib.Ieee.{Float, nan, inf, fin}
 use lib.Ieee.Scale.{finite}
 use Rattle.basis.specs.Numbers.{ROPE}
-use Rattle.basis.specs.Order.{Answer, refused, accepted, Order, check, give, answer}
+use Rattle.basis.specs.Order.{refused, accepted, Order, check, give, answer}
 use Rattle.basis.proofs.Order.{passes, fails, gives, apart}
 use Rattle.basis.proofs.Tests.{never}
 use Rattle.rope.specs.declared.Point.{Point}

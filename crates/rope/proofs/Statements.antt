@@ -1,15 +1,16 @@
 -- The statements of specs/Statements.antt, proved.
 use Prim.Native.Nat.{ℕ}
-use mathlib.Core.Path.{_≡_, refl, sym, ap, subst, _∙_}
-use mathlib.Core.Logic.{_↔_, _⊎_, _≢_, inl, inr, ⊎-elim, Iff·trans}
-use mathlib.Core.Bool.{Bool, true, false}
+use mathlib.Core.Path.{_≡_, refl, sym, ap, _∙_}
+use mathlib.Core.Logic.{_↔_, _⊎_, ⊎-elim, Iff·trans}
+use mathlib.Core.Bool.{true, false}
 use mathlib.Core.List.{List}
 use lib.ListN.{take}
 use lib.IntN.{pos, negsuc}
 use lib.Ieee.{Float, fin, binary64, round, ofBits, toBits, add, sub, mul}
 use lib.Ieee.{neg, fits}
+use lib.Ieee.Bits.{is-true, ofBits-fits}
 use lib.Ieee.Scale.{finite}
-use Rattle.basis.specs.Order.{Answer, refused, accepted, answer}
+use Rattle.basis.specs.Order.{Answer, accepted, answer}
 use Rattle.basis.proofs.Order.{one-outcome, apart, held, given}
 use Rattle.basis.proofs.Tests.{and-right}
 use Rattle.rope.specs.declared.Point.{Point}
@@ -94,6 +95,7 @@ pub ropeEnds : RopeEnds
 ropeEnds =
     record {
       numbers = numbers;
+      f64 = λ bits. is-true _ (ofBits-fits binary64 bits);
       noForces = noForces;
       counted =
           λ point forces others count out same says.

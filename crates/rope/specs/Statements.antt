@@ -4,7 +4,7 @@
 use Prim.Native.Nat.{ℕ}
 use mathlib.Core.Path.{_≡_}
 use mathlib.Core.Logic.{_↔_, _≢_}
-use mathlib.Core.Bool.{true, false}
+use mathlib.Core.Bool.{true}
 use mathlib.Core.List.{List, [], _∷_}
 use lib.ListN.{take}
 use lib.Ieee.{Float, binary64, ofBits, toBits, fits, neg, eq}
@@ -46,6 +46,8 @@ pub record NoForces (point : Point) (next : Point) : Type 0 where
 pub record RopeEnds : Type 0 where
   pub numbers : (point : Point) (forces : List Force) (count : ℕ) (out : Stepped)
       → StepSays point forces count out → StepNumbers point forces count out
+  -- Whatever bits the speed has, it is an f64, as `noForces` asks.
+  pub f64 : (bits : ℕ) → fits binary64 (ofBits binary64 bits) ≡ true
   pub noForces : (point : Point) (forces : List Force) (next : Point)
       → StepSays point forces 0 (Moved next) → fits binary64 (point .speed) ≡ true
       → NoForces point next

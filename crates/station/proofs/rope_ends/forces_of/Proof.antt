@@ -1,7 +1,7 @@
 -- `forces_of` meets its contract. The loop's invariant: the forces put into the array, and those
 -- from `i` on, are all of them.
 use Prim.Native.Nat.{_*_, _≤_, _-_}
-use mathlib.Core.Path.{_≡_, refl, sym, ap, _∙_}
+use mathlib.Core.Path.{_≡_, refl, sym, _∙_}
 use mathlib.Core.List.{_++_}
 use denote.Ref.{now}
 use lib.ListN.{length, take, drop, length-set}
