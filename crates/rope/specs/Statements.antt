@@ -81,10 +81,11 @@ pub record Examples : Type 0 where
   -- A pull of -0.0 is added to 0.0, which is 0.0: so -0.0 becomes 0.0 here too.
   pub start : StepSays (pointAt minusZero minusZero) (Pull minusZero ∷ []) 1
       (Moved (pointAt plusZero plusZero))
-  -- The list's order: one sum stays finite, the other passes the largest f64 on its way.
+  -- The largest f64 and its opposite cancel; the third force lies past the count.
   pub inOrder : StepSays (pointAt plusZero plusZero)
       (Pull largest ∷ Pull (neg largest) ∷ Pull largest ∷ []) 2
       (Moved (pointAt plusZero plusZero))
+  -- In this order, all three counted, the sum passes the largest f64 on its way.
   pub overflow : StepSays (pointAt plusZero plusZero)
       (Pull largest ∷ Pull largest ∷ Pull (neg largest) ∷ []) 3 (Refused 18)
   -- A spring of stiffness 0: rest minus place is an infinity, times 0 a NaN.
