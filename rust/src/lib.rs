@@ -75,6 +75,8 @@ pub const END: u32 = 12;
 pub const LOG: u32 = 13;
 /// What is handed back after opening isn't sound.
 pub const FAULT: u32 = 14;
+/// More than eight forces on a rope end, a kind above 2, or a number or result that isn't finite.
+pub const ROPE: u32 = 18;
 /// An accepted call other than a delivery.
 pub const DONE: u32 = 255;
 
@@ -352,5 +354,28 @@ pub fn log_sound(log: &[u8]) -> u32 {
 pub fn step_records(log: &[u8], step: u32, out: &mut [u64]) -> u32 {
     unsafe {
         raw::wuthracomb_step_records(log.as_ptr(), log.len(), step, out.as_mut_ptr(), out.len())
+    }
+}
+
+/// Makes one step of a rope end, whose place is `point[0]` and whose speed is `point[1]`, under up
+/// to eight forces with two numbers each: kind 0 a pull (size, unused), 1 a spring (stiffness, rest
+/// place), 2 a drag (factor, unused). [`DONE`], or [`ROOM`] where `numbers` isn't twice as long as
+/// `kinds` or `point` isn't 2 long, [`ROPE`].
+///
+/// ```
+/// let mut point = [0.25, 0.0];
+/// assert_eq!(wuthracomb::rope_step(&[1], &[40.0, 1.0], &mut point), wuthracomb::DONE);
+/// assert_eq!(point, [0.262, 0.6]);
+/// ```
+pub fn rope_step(kinds: &[u32], numbers: &[f64], point: &mut [f64]) -> u32 {
+    unsafe {
+        raw::wuthracomb_rope_step(
+            kinds.as_ptr(),
+            kinds.len(),
+            numbers.as_ptr(),
+            numbers.len(),
+            point.as_mut_ptr(),
+            point.len(),
+        )
     }
 }

@@ -133,4 +133,13 @@ extern "C" {
         out: *mut u64,
         out_len: usize,
     ) -> u32;
+
+    pub fn wuthracomb_rope_step(
+        kinds: *const u32,
+        kinds_len: usize,
+        numbers: *const f64,
+        numbers_len: usize,
+        point: *mut f64,
+        point_len: usize,
+    ) -> u32;
 }

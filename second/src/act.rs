@@ -81,6 +81,11 @@ pub enum Act {
         step: u32,
         out: usize,
     },
+    RopeStep {
+        kinds: Vec<u32>,
+        numbers: Vec<f64>,
+        point: Vec<f64>,
+    },
 }
 
 impl Act {
@@ -97,6 +102,7 @@ impl Act {
             Act::WriteRecord { .. } => Some("write_record"),
             Act::LogSound(_) => Some("log_sound"),
             Act::StepRecords { .. } => Some("step_records"),
+            Act::RopeStep { .. } => Some("rope_step"),
             Act::Lend(_) | Act::Put { .. } | Act::Resize { .. } | Act::Keep | Act::Restore => None,
         }
     }
@@ -154,6 +160,9 @@ impl fmt::Debug for Act {
             Act::LogSound(log) => write!(f, "log_sound {:?}", Short(log)),
             Act::StepRecords { log, step, out } => {
                 write!(f, "step_records {step} of {:?} into {out}", Short(log))
+            }
+            Act::RopeStep { kinds, numbers, point } => {
+                write!(f, "rope_step of {point:?} by {kinds:?} {numbers:?}")
             }
         }
     }

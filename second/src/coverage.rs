@@ -16,6 +16,7 @@ const CAN_GIVE: &[(&str, &[u32])] = &[
     ("write_record", &[CARRIER, LEVER, STEP, ROOM, DONE]),
     ("log_sound", &[0, 1]),
     ("step_records", &[ROOM, DONE]),
+    ("rope_step", &[ROOM, ROPE, DONE]),
 ];
 
 #[derive(Default)]

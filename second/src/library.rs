@@ -55,4 +55,8 @@ impl Station for Library {
     fn step_records(&self, log: &[u8], step: u32, out: &mut [u64]) -> u32 {
         wuthracomb::step_records(log, step, out)
     }
+
+    fn rope_step(&self, kinds: &[u32], numbers: &[f64], point: &mut [f64]) -> u32 {
+        wuthracomb::rope_step(kinds, numbers, point)
+    }
 }

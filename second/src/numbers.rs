@@ -15,6 +15,8 @@ pub const BACKWARD: u32 = 11;
 pub const END: u32 = 12;
 pub const LOG: u32 = 13;
 pub const FAULT: u32 = 14;
+/// Of a rope end (02 §8).
+pub const ROPE: u32 = 18;
 /// An accepted call other than a delivery.
 pub const DONE: u32 = 255;
 

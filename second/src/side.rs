@@ -190,6 +190,11 @@ impl<'s> Side<'s> {
             Act::StepRecords { log, step, out } => {
                 reading(log, |log| writing(*out, |out| station.step_records(log, *step, out)))
             }
+            Act::RopeStep { kinds, numbers, point } => reading(kinds, |kinds| {
+                reading(numbers, |numbers| {
+                    changing(point, |point| station.rope_step(kinds, numbers, point))
+                })
+            }),
             between => {
                 self.between(between);
                 return None;

@@ -47,4 +47,5 @@ pub trait Station {
     fn write_record(&self, step: u32, carrier: u32, lever: u32, out: &mut [u8]) -> u32;
     fn log_sound(&self, log: &[u8]) -> u32;
     fn step_records(&self, log: &[u8], step: u32, out: &mut [u64]) -> u32;
+    fn rope_step(&self, kinds: &[u32], numbers: &[f64], point: &mut [f64]) -> u32;
 }

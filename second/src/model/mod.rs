@@ -11,6 +11,7 @@ mod digest;
 mod levers;
 mod log;
 mod record;
+mod rope;
 mod session;
 mod shown;
 mod step;

@@ -5,6 +5,7 @@
 //! without the choosing.
 
 mod damage;
+mod rope;
 mod values;
 
 use crate::act::{Act, Slice};
@@ -25,6 +26,11 @@ pub struct Run {
 /// Makes the run of this seed.
 pub fn run(other: &dyn Station, seed: u64) -> Run {
     run_of(Wander::wander, other, seed)
+}
+
+/// Makes a run of this seed that has only steps of rope ends.
+pub fn run_of_ropes(other: &dyn Station, seed: u64) -> Run {
+    run_of(|wander| wander.ropes(60), other, seed)
 }
 
 fn run_of<'s>(
@@ -64,7 +70,7 @@ impl<'s> Wander<'s> {
             1 | 2 => self.valid(false)?,
             _ => self.valid(true)?,
         }
-        Ok(())
+        self.ropes(5)
     }
 
     /// A valid world opened, then calls in any order; with damage between them if asked.
