@@ -8,10 +8,11 @@
    calls: all that lasts is in the slices that the caller lends.
 
    Slices.  A slice is a pointer and the number of its elements.  The pointer
-   is never null and is aligned for its type, also where the length is 0 (then
-   nothing is read or written through it).  A slice that is written shares no
-   byte with another slice of the same call.  In every call the lent slices
-   stand in this order:
+   is aligned for its type and stands for that many elements; where the length
+   is 0 nothing is read or written through it, and it may be null: {NULL, 0} is
+   an empty slice like any other.  A slice that is written shares no byte with
+   another slice of the same call.  In every call the lent slices stand in this
+   order:
 
      cells    const uint8_t   W*H       one byte for each cell, row by row
      boxes    const int32_t   4*B       x, y, w, h of each carrier at the start
@@ -26,6 +27,36 @@
    wuthracomb_log_sound answers otherwise.  The numbers 2 to 14 are refusals.
    A refusal changes no byte and no word of any slice.  Below, "refusals, in
    order" means that the first that applies is given.
+
+   Threads.  There is no state but what is lent, so any number of sessions may
+   run at once, each in one thread at a time.  Slices that are only read may be
+   shared.
+
+   Stack.  Nothing is allocated and no function recurs.  A call takes at most
+   1,780 bytes of stack beside its arguments (read off the machine code along
+   the deepest chain of calls, memset of the C library not counted).
+
+   Machine.  x86-64, System V calling convention.
+
+   A record is 8 bytes: at a step, a carrier's lever moves to a position.
+
+     bytes 0 to 3  step, unsigned, the least byte first; 0 to 179,999
+     byte  4       carrier, 0 to B-1
+     byte  5       lever, 0 to 9
+     bytes 6, 7    zero
+
+   Its place is (step, carrier).  A log is records one after the other, strictly
+   ascending by step, then carrier; no header, at most 2,048 records.
+
+   Levers.  In a step each speed grows by the lever's push and is cut to the
+   range -200 to 200; lever 9 is the brake, which halves both speeds, rounded
+   toward zero.  A lever stays where it is until another record moves it.
+
+     lever     0    1    2    3    4    5    6    7    8
+     along x   0   12    8    0   -8  -12   -8    0    8
+     along y   0    0    8   12    8    0   -8  -12   -8
+
+   docs/RULES.md has all rules, with examples worked out by hand.
 */
 
 #ifndef WUTHRACOMB_H

@@ -9,6 +9,11 @@ const NAMES: [&str; 2] = ["wuthracomb", "station"];
 
 fn main() {
     println!("cargo::rerun-if-changed=build.rs");
+    let machine = env::var("CARGO_CFG_TARGET_ARCH").unwrap();
+    if machine != "x86_64" {
+        println!("cargo::error=the library is for x86-64, and this build is for {machine}");
+        return;
+    }
     println!("cargo::rerun-if-env-changed=WUTHRACOMB_LIB_DIR");
     let given = env::var_os("WUTHRACOMB_LIB_DIR").map(PathBuf::from);
     let folder = given.unwrap_or_else(|| {

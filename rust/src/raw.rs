@@ -3,8 +3,8 @@
 //! # Safety
 //!
 //! Of every function here: each pointer stands for as many elements as the length after it says and
-//! is aligned for its type; where the length is 0 it may be anything, null included. A slice that is
-//! written shares no byte with another slice of the same call.
+//! is aligned for its type; where the length is 0 it may be null. A slice that is written shares no
+//! byte with another slice of the same call.
 
 extern "C" {
     pub fn wuthracomb_open(

@@ -5,10 +5,12 @@
 //! measure the library against; `library` is the library itself. All three are a [`Station`].
 //! `pair` does the same calls with the model and another station and compares everything after
 //! each; `wander` makes random runs of such calls, `shrink` finds the smallest that differs.
+//! `expected` makes from the model what the test programs of `crates/` are to write.
 
 pub mod act;
 pub mod coverage;
 pub mod desk;
+pub mod expected;
 pub mod fast;
 pub mod guarded;
 #[cfg(feature = "library")]

@@ -1,5 +1,7 @@
 //! The interface that the library, the model and the fast program all have: the C face in Rust.
 
+use crate::act::Buffers;
+
 /// The six slices that most calls are lent, of any lengths.
 pub struct Lent<'a> {
     pub cells: &'a [u8],
@@ -8,6 +10,14 @@ pub struct Lent<'a> {
     pub rows: &'a mut [i32],
     pub log: &'a mut [u8],
     pub session: &'a mut [u64],
+}
+
+impl Lent<'_> {
+    /// All six, lent as they are.
+    pub fn of(buffers: &mut Buffers) -> Lent<'_> {
+        let Buffers { cells, boxes, state, rows, log, session } = buffers;
+        Lent { cells, boxes, state, rows, log, session }
+    }
 }
 
 /// The words of a session by name.

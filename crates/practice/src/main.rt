@@ -1,7 +1,7 @@
 // A carrier walks through the practice yard (document 01, 'The program') under a built-in log:
-// where it stands after so many steps, as the program writes it. The file `stdout` holds what a few
-// lines of Python give from document 01. Among the steps are its examples E (step 0), J (step 8),
-// H (step 32) and I (step 33).
+// where it stands after so many steps, as the program writes it. The file `stdout` holds what the
+// model of second/ gives. Among the steps are document 01's examples E (step 0), J (step 8), H (step
+// 32) and I (step 33).
 ghost use mathlib.Core.Path.{_≡_};
 ghost use Prim.Native.Nat.{_/_, _≤_};
 ghost use lib.ListN.{length};

@@ -108,21 +108,10 @@ impl Ground {
         });
         let log: Vec<u8> = log.collect();
         let mut session = world.lend();
-        assert_eq!(Fast.open(YARD, 0, &mut lent(&mut session)), DONE);
+        assert_eq!(Fast.open(YARD, 0, &mut Lent::of(&mut session)), DONE);
         session.log.copy_from_slice(&log);
         session.session[word::HELD] = RECORDS;
         Ground { world, log, session }
-    }
-}
-
-fn lent(buffers: &mut Buffers) -> Lent<'_> {
-    Lent {
-        cells: &buffers.cells,
-        boxes: &buffers.boxes,
-        state: &mut buffers.state,
-        rows: &mut buffers.rows,
-        log: &mut buffers.log,
-        session: &mut buffers.session,
     }
 }
 
@@ -146,20 +135,20 @@ fn half(ground: &Ground) -> Buffers {
     buffers.log[half..].fill(0);
     buffers.session[word::HELD] = RECORDS / 2;
     for reading in 1..=8 {
-        assert_eq!(Fast.reading(200_000 * reading, &mut lent(&mut buffers)), DONE);
+        assert_eq!(Fast.reading(200_000 * reading, &mut Lent::of(&mut buffers)), DONE);
     }
     buffers
 }
 
 fn replay(station: &dyn Station, buffers: &mut Buffers, ground: &Ground) {
     let steps = STEPS as u32;
-    let number = station.replay(ground.world.shape, steps, &mut lent(buffers), &ground.log);
+    let number = station.replay(ground.world.shape, steps, &mut Lent::of(buffers), &ground.log);
     assert_eq!(number, DONE);
 }
 
 /// Readings of 250,000 microseconds, 12 or 13 steps each.
 fn live(station: &dyn Station, buffers: &mut Buffers, _: &Ground) {
-    let mut lent = lent(buffers);
+    let mut lent = Lent::of(buffers);
     for reading in 1..=STEPS * 20_000 / 250_000 {
         assert_eq!(station.reading(250_000 * reading, &mut lent), DONE);
     }
@@ -167,7 +156,7 @@ fn live(station: &dyn Station, buffers: &mut Buffers, _: &Ground) {
 
 /// A record for each carrier at a step 64 back.
 fn deliveries(station: &dyn Station, buffers: &mut Buffers, _: &Ground) {
-    let mut lent = lent(buffers);
+    let mut lent = Lent::of(buffers);
     let step = lent.session[word::STEPS] - BACK;
     for carrier in 0..32 {
         let record = record(step as u32, carrier, carrier % 10);
@@ -192,7 +181,7 @@ fn rope(station: &dyn Station, buffers: &mut Buffers, _: &Ground) {
 }
 
 fn digest(station: &dyn Station, buffers: &mut Buffers, _: &Ground) {
-    let lent = lent(buffers);
+    let lent = Lent::of(buffers);
     for _ in 0..500 {
         assert_eq!(station.digest(&lent, &mut [0]), DONE);
     }

@@ -19,3 +19,4 @@ mod world;
 mod yard;
 
 pub use calls::Model;
+pub use digest::fnv1a;
