@@ -24,7 +24,8 @@
 
    Answers.  Every function returns a uint32_t: a number of document 01, or
    WUTHRACOMB_DONE for an accepted call other than a delivery; only
-   wuthracomb_log_sound answers otherwise.  The numbers 2 to 14 are refusals.
+   wuthracomb_log_sound answers otherwise.  The numbers 2 to 14 and 18 are
+   refusals.
    A refusal changes no byte and no word of any slice.  Below, "refusals, in
    order" means that the first that applies is given.
 
@@ -69,7 +70,7 @@
 extern "C" {
 #endif
 
-/* The numbers of document 01. */
+/* The numbers of documents 01 and 02. */
 
 #define WUTHRACOMB_TAKEN      0u  /* the record is now held */
 #define WUTHRACOMB_HELD       1u  /* the same 8 bytes are already held */
@@ -86,6 +87,7 @@ extern "C" {
 #define WUTHRACOMB_END       12u  /* steps made plus the steps due would pass 180,000 */
 #define WUTHRACOMB_LOG       13u  /* a log to be read isn't sound */
 #define WUTHRACOMB_FAULT     14u  /* what is handed back after opening isn't sound */
+#define WUTHRACOMB_ROPE      18u  /* a rope end, its forces or its step can't be used */
 
 /* An accepted call other than a delivery. */
 #define WUTHRACOMB_DONE     255u
@@ -109,6 +111,14 @@ extern "C" {
 #define WUTHRACOMB_MAX_RECORDS      2048
 #define WUTHRACOMB_LOG_BYTES       16384
 #define WUTHRACOMB_SESSION_WORDS       9
+#define WUTHRACOMB_MAX_FORCES          8  /* forces on a rope end */
+#define WUTHRACOMB_POINT_NUMBERS       2  /* point: place, speed */
+
+/* The kinds of forces on a rope end, and the two numbers of each. */
+
+#define WUTHRACOMB_PULL    0u  /* size; the second isn't used */
+#define WUTHRACOMB_SPRING  1u  /* stiffness, rest place */
+#define WUTHRACOMB_DRAG    2u  /* factor; the second isn't used */
 
 /* The words of a session, each compared whole as 64 bits. */
 
@@ -291,6 +301,29 @@ uint32_t wuthracomb_log_sound(const uint8_t *log, size_t log_len);
 */
 uint32_t wuthracomb_step_records(const uint8_t *log, size_t log_len, uint32_t step,
                                  uint64_t *out, size_t out_len);
+
+/* Moves a rope end by one step, only for show: point is its place and its
+   speed along one axis.  Force i is of the kind kinds[i], with the numbers
+   numbers[2*i] and numbers[2*i + 1].  Nothing of it reaches a session.
+
+   A pull is its size; a spring is stiffness times (rest minus place); a drag
+   is minus (factor times speed).  The forces are added in the order given,
+   starting from 0.0; then speed becomes speed + force*0.02, then place becomes
+   place + speed*0.02 with the new speed.  Each operation is rounded once to an
+   f64, and none is fused with another.
+
+   Refusals, in order:
+     ROOM  numbers_len isn't 2*kinds_len, or point_len isn't 2;
+     ROPE  kinds_len is above 8, a kind is above 2, a number of the point or
+           a number that a force uses isn't finite, or the place or the speed
+           after the whole sum and move isn't finite.
+
+   DONE: point is written, nothing else.  The caller's floating-point mode is
+   the default one: round to nearest, subnormal numbers kept.
+*/
+uint32_t wuthracomb_rope_step(const uint32_t *kinds, size_t kinds_len,
+                              const double *numbers, size_t numbers_len,
+                              double *point, size_t point_len);
 
 #ifdef __cplusplus
 }

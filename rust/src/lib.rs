@@ -75,7 +75,7 @@ pub const END: u32 = 12;
 pub const LOG: u32 = 13;
 /// What is handed back after opening isn't sound.
 pub const FAULT: u32 = 14;
-/// More than eight forces on a rope end, a kind above 2, or a number or result that isn't finite.
+/// A rope end, its forces or its step can't be used.
 pub const ROPE: u32 = 18;
 /// An accepted call other than a delivery.
 pub const DONE: u32 = 255;
@@ -114,6 +114,17 @@ pub const MAX_RECORDS: usize = 2048;
 pub const LOG_BYTES: usize = 16384;
 /// Words of a session.
 pub const SESSION_WORDS: usize = 9;
+/// Forces on a rope end, at most.
+pub const MAX_FORCES: usize = 8;
+/// Numbers of a rope end, its place and its speed.
+pub const POINT_NUMBERS: usize = 2;
+
+/// The kind of a pull; its numbers are its size and one that isn't used.
+pub const PULL: u32 = 0;
+/// The kind of a spring; its numbers are its stiffness and its rest place.
+pub const SPRING: u32 = 1;
+/// The kind of a drag; its numbers are its factor and one that isn't used.
+pub const DRAG: u32 = 2;
 
 /// The session's word for W.
 pub const SESSION_W: usize = 0;
@@ -357,14 +368,18 @@ pub fn step_records(log: &[u8], step: u32, out: &mut [u64]) -> u32 {
     }
 }
 
-/// Makes one step of a rope end, whose place is `point[0]` and whose speed is `point[1]`, under up
-/// to eight forces with two numbers each: kind 0 a pull (size, unused), 1 a spring (stiffness, rest
-/// place), 2 a drag (factor, unused). [`DONE`], or [`ROOM`] where `numbers` isn't twice as long as
-/// `kinds` or `point` isn't 2 long, [`ROPE`].
+/// Moves a rope end by one step, `point[0]` being its place and `point[1]` its speed, under up to
+/// eight forces; the force of kind `kinds[i]` has the numbers `numbers[2 * i]` and
+/// `numbers[2 * i + 1]`. [`DONE`], or [`ROOM`] where `numbers` isn't twice as long as `kinds` or
+/// `point` isn't 2 long, [`ROPE`].
 ///
 /// ```
+/// use wuthracomb::*;
+///
+/// // A spring of stiffness 40 with its rest at 1, and a drag.
 /// let mut point = [0.25, 0.0];
-/// assert_eq!(wuthracomb::rope_step(&[1], &[40.0, 1.0], &mut point), wuthracomb::DONE);
+/// let number = rope_step(&[SPRING, DRAG], &[40.0, 1.0, 0.5, 0.0], &mut point);
+/// assert_eq!(number, DONE);
 /// assert_eq!(point, [0.262, 0.6]);
 /// ```
 pub fn rope_step(kinds: &[u32], numbers: &[f64], point: &mut [f64]) -> u32 {
