@@ -65,6 +65,11 @@ pub enum Act {
         carrier: u32,
         out: usize,
     },
+    RopeStep {
+        kinds: Vec<u32>,
+        numbers: Vec<f64>,
+        point: Vec<f64>,
+    },
     ReadRecord {
         record: Vec<u8>,
         out: usize,
@@ -81,11 +86,6 @@ pub enum Act {
         step: u32,
         out: usize,
     },
-    RopeStep {
-        kinds: Vec<u32>,
-        numbers: Vec<f64>,
-        point: Vec<f64>,
-    },
 }
 
 impl Act {
@@ -98,11 +98,11 @@ impl Act {
             Act::Replay { .. } => Some("replay"),
             Act::Digest { .. } => Some("digest"),
             Act::Shown { .. } => Some("shown"),
+            Act::RopeStep { .. } => Some("rope_step"),
             Act::ReadRecord { .. } => Some("read_record"),
             Act::WriteRecord { .. } => Some("write_record"),
             Act::LogSound(_) => Some("log_sound"),
             Act::StepRecords { .. } => Some("step_records"),
-            Act::RopeStep { .. } => Some("rope_step"),
             Act::Lend(_) | Act::Put { .. } | Act::Resize { .. } | Act::Keep | Act::Restore => None,
         }
     }
@@ -151,6 +151,9 @@ impl fmt::Debug for Act {
             }
             Act::Digest { out } => write!(f, "digest into {out}"),
             Act::Shown { carrier, out } => write!(f, "shown {carrier} into {out}"),
+            Act::RopeStep { kinds, numbers, point } => {
+                write!(f, "rope_step of {point:?} by {kinds:?} {numbers:?}")
+            }
             Act::ReadRecord { record, out } => {
                 write!(f, "read_record {:?} into {out}", Short(record))
             }
@@ -160,9 +163,6 @@ impl fmt::Debug for Act {
             Act::LogSound(log) => write!(f, "log_sound {:?}", Short(log)),
             Act::StepRecords { log, step, out } => {
                 write!(f, "step_records {step} of {:?} into {out}", Short(log))
-            }
-            Act::RopeStep { kinds, numbers, point } => {
-                write!(f, "rope_step of {point:?} by {kinds:?} {numbers:?}")
             }
         }
     }

@@ -40,6 +40,10 @@ impl Station for Library {
         wuthracomb::shown(carrier, cells, boxes, state, rows, log, session, out)
     }
 
+    fn rope_step(&self, kinds: &[u32], numbers: &[f64], point: &mut [f64]) -> u32 {
+        wuthracomb::rope_step(kinds, numbers, point)
+    }
+
     fn read_record(&self, record: &[u8], out: &mut [u32]) -> u32 {
         wuthracomb::read_record(record, out)
     }
@@ -54,9 +58,5 @@ impl Station for Library {
 
     fn step_records(&self, log: &[u8], step: u32, out: &mut [u64]) -> u32 {
         wuthracomb::step_records(log, step, out)
-    }
-
-    fn rope_step(&self, kinds: &[u32], numbers: &[f64], point: &mut [f64]) -> u32 {
-        wuthracomb::rope_step(kinds, numbers, point)
     }
 }
