@@ -82,7 +82,7 @@ extern "C" {
 #define WUTHRACOMB_LATE       7u  /* record step + 64 is below the steps made */
 #define WUTHRACOMB_FULL       8u  /* 2,048 records are held */
 #define WUTHRACOMB_WORLD      9u  /* W, H or B, a cell, a size or a start */
-#define WUTHRACOMB_ROOM      10u  /* a lent length, at opening or replay or of an out slice */
+#define WUTHRACOMB_ROOM      10u  /* a lent length: at opening, at replay, of an out slice, of a rope end */
 #define WUTHRACOMB_BACKWARD  11u  /* reading below the last reading */
 #define WUTHRACOMB_END       12u  /* steps made plus the steps due would pass 180,000 */
 #define WUTHRACOMB_LOG       13u  /* a log to be read isn't sound */

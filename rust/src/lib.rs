@@ -65,7 +65,7 @@ pub const LATE: u32 = 7;
 pub const FULL: u32 = 8;
 /// W, H or B, a cell, a size or a start.
 pub const WORLD: u32 = 9;
-/// A lent length, at opening or replay or of an out slice.
+/// A lent length: at opening, at replay, of an out slice, of a rope end.
 pub const ROOM: u32 = 10;
 /// Reading below the last reading.
 pub const BACKWARD: u32 = 11;
