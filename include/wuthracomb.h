@@ -70,7 +70,7 @@
 extern "C" {
 #endif
 
-/* The numbers of document 01. */
+/* The numbers of documents 01 and 02. */
 
 #define WUTHRACOMB_TAKEN      0u  /* the record is now held */
 #define WUTHRACOMB_HELD       1u  /* the same 8 bytes are already held */
@@ -88,9 +88,10 @@ extern "C" {
 #define WUTHRACOMB_LOG       13u  /* a log to be read isn't sound */
 #define WUTHRACOMB_FAULT     14u  /* what is handed back after opening isn't sound */
 
-/* A number of document 02. */
+/* The numbers of document 02. */
 
 #define WUTHRACOMB_LOAD      17u  /* a load, its stiffness or its step is out of range */
+#define WUTHRACOMB_ROPE      18u  /* a rope end, its forces or its step can't be used */
 
 /* An accepted call other than a delivery. */
 #define WUTHRACOMB_DONE     255u
@@ -117,6 +118,14 @@ extern "C" {
 #define WUTHRACOMB_LOAD_WORDS          2  /* x, v */
 #define WUTHRACOMB_MAX_LOAD        32767  /* x and v stay within this, either way */
 #define WUTHRACOMB_MAX_STIFFNESS    1024  /* a stiffness is 1 to this */
+#define WUTHRACOMB_MAX_FORCES          8  /* forces on a rope end */
+#define WUTHRACOMB_POINT_NUMBERS       2  /* point: place, speed */
+
+/* The kinds of forces on a rope end, and the two numbers of each. */
+
+#define WUTHRACOMB_PULL    0u  /* size; the second isn't used */
+#define WUTHRACOMB_SPRING  1u  /* stiffness, rest place */
+#define WUTHRACOMB_DRAG    2u  /* factor; the second isn't used */
 
 /* The words of a session, each compared whole as 64 bits. */
 
@@ -312,6 +321,29 @@ uint32_t wuthracomb_step_records(const uint8_t *log, size_t log_len, uint32_t st
    DONE: load holds the new x and v.
 */
 uint32_t wuthracomb_load_step(uint32_t stiffness, int32_t *load, size_t load_len);
+
+/* Moves a rope end by one step, only for show: point is its place and its
+   speed along one axis.  Force i is of the kind kinds[i], with the numbers
+   numbers[2*i] and numbers[2*i + 1].  Nothing of it reaches a session.
+
+   A pull is its size; a spring is stiffness times (rest minus place); a drag
+   is minus (factor times speed).  The forces are added in the order given,
+   starting from 0.0; then speed becomes speed + force*0.02, then place becomes
+   place + speed*0.02 with the new speed.  Each operation is rounded once to an
+   f64, and none is fused with another.
+
+   Refusals, in order:
+     ROOM  numbers_len isn't 2*kinds_len, or point_len isn't 2;
+     ROPE  kinds_len is above 8, a kind is above 2, a number of the point or
+           a number that a force uses isn't finite, or the place or the speed
+           after the whole sum and move isn't finite.
+
+   DONE: point is written, nothing else.  The caller's floating-point mode is
+   the default one: round to nearest, subnormal numbers kept.
+*/
+uint32_t wuthracomb_rope_step(const uint32_t *kinds, size_t kinds_len,
+                              const double *numbers, size_t numbers_len,
+                              double *point, size_t point_len);
 
 #ifdef __cplusplus
 }

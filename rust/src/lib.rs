@@ -65,7 +65,7 @@ pub const LATE: u32 = 7;
 pub const FULL: u32 = 8;
 /// W, H or B, a cell, a size or a start.
 pub const WORLD: u32 = 9;
-/// A lent length, at opening or replay or of an out slice.
+/// A lent length, at opening or replay or with no session.
 pub const ROOM: u32 = 10;
 /// Reading below the last reading.
 pub const BACKWARD: u32 = 11;
@@ -77,6 +77,8 @@ pub const LOG: u32 = 13;
 pub const FAULT: u32 = 14;
 /// A load, its stiffness or its step is out of range.
 pub const LOAD: u32 = 17;
+/// A rope end, its forces or its step can't be used.
+pub const ROPE: u32 = 18;
 /// An accepted call other than a delivery.
 pub const DONE: u32 = 255;
 
@@ -120,6 +122,17 @@ pub const LOAD_WORDS: usize = 2;
 pub const MAX_LOAD: i32 = 32767;
 /// A load's stiffness is 1 to this.
 pub const MAX_STIFFNESS: u32 = 1024;
+/// Forces on a rope end, at most.
+pub const MAX_FORCES: usize = 8;
+/// Numbers of a rope end, its place and its speed.
+pub const POINT_NUMBERS: usize = 2;
+
+/// The kind of a pull; its numbers are its size and one that isn't used.
+pub const PULL: u32 = 0;
+/// The kind of a spring; its numbers are its stiffness and its rest place.
+pub const SPRING: u32 = 1;
+/// The kind of a drag; its numbers are its factor and one that isn't used.
+pub const DRAG: u32 = 2;
 
 /// The session's word for W.
 pub const SESSION_W: usize = 0;
@@ -374,4 +387,31 @@ pub fn step_records(log: &[u8], step: u32, out: &mut [u64]) -> u32 {
 /// ```
 pub fn load_step(stiffness: u32, load: &mut [i32]) -> u32 {
     unsafe { raw::wuthracomb_load_step(stiffness, load.as_mut_ptr(), load.len()) }
+}
+
+/// Moves a rope end by one step, `point[0]` being its place and `point[1]` its speed, under up to
+/// eight forces; the force of kind `kinds[i]` has the numbers `numbers[2 * i]` and
+/// `numbers[2 * i + 1]`. [`DONE`], or [`ROOM`] where `numbers` isn't twice as long as `kinds` or
+/// `point` isn't 2 long, [`ROPE`].
+///
+/// ```
+/// use wuthracomb::*;
+///
+/// // A spring of stiffness 40 with its rest at 1, and a drag.
+/// let mut point = [0.25, 0.0];
+/// let number = rope_step(&[SPRING, DRAG], &[40.0, 1.0, 0.5, 0.0], &mut point);
+/// assert_eq!(number, DONE);
+/// assert_eq!(point, [0.262, 0.6]);
+/// ```
+pub fn rope_step(kinds: &[u32], numbers: &[f64], point: &mut [f64]) -> u32 {
+    unsafe {
+        raw::wuthracomb_rope_step(
+            kinds.as_ptr(),
+            kinds.len(),
+            numbers.as_ptr(),
+            numbers.len(),
+            point.as_mut_ptr(),
+            point.len(),
+        )
+    }
 }

@@ -135,4 +135,13 @@ extern "C" {
     ) -> u32;
 
     pub fn wuthracomb_load_step(stiffness: u32, load: *mut i32, load_len: usize) -> u32;
+
+    pub fn wuthracomb_rope_step(
+        kinds: *const u32,
+        kinds_len: usize,
+        numbers: *const f64,
+        numbers_len: usize,
+        point: *mut f64,
+        point_len: usize,
+    ) -> u32;
 }

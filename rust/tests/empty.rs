@@ -282,6 +282,18 @@ fn replay_of_no_log_gives_the_start() {
 }
 
 #[test]
+fn a_rope_end_without_forces_and_nothing() {
+    let mut point = [1.0, 0.5];
+    unsafe {
+        assert_eq!(wuthracomb_rope_step(null(), 0, null(), 0, point.as_mut_ptr(), 2), DONE);
+        assert_eq!(wuthracomb_rope_step(&PULL, 1, null(), 0, point.as_mut_ptr(), 2), ROOM);
+        assert_eq!(wuthracomb_rope_step(null(), 0, [1.0; 2].as_ptr(), 2, null_mut(), 0), ROOM);
+        assert_eq!(wuthracomb_rope_step(null(), 0, null(), 0, null_mut(), 0), ROOM);
+    }
+    assert_eq!(point, [1.01, 0.5]);
+}
+
+#[test]
 fn records_and_logs_of_nothing() {
     let mut three = [7; 3];
     let mut two = [7; 2];

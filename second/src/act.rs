@@ -65,6 +65,11 @@ pub enum Act {
         carrier: u32,
         out: usize,
     },
+    RopeStep {
+        kinds: Vec<u32>,
+        numbers: Vec<f64>,
+        point: Vec<f64>,
+    },
     ReadRecord {
         record: Vec<u8>,
         out: usize,
@@ -97,6 +102,7 @@ impl Act {
             Act::Replay { .. } => Some("replay"),
             Act::Digest { .. } => Some("digest"),
             Act::Shown { .. } => Some("shown"),
+            Act::RopeStep { .. } => Some("rope_step"),
             Act::ReadRecord { .. } => Some("read_record"),
             Act::WriteRecord { .. } => Some("write_record"),
             Act::LogSound(_) => Some("log_sound"),
@@ -150,6 +156,9 @@ impl fmt::Debug for Act {
             }
             Act::Digest { out } => write!(f, "digest into {out}"),
             Act::Shown { carrier, out } => write!(f, "shown {carrier} into {out}"),
+            Act::RopeStep { kinds, numbers, point } => {
+                write!(f, "rope_step of {point:?} by {kinds:?} {numbers:?}")
+            }
             Act::ReadRecord { record, out } => {
                 write!(f, "read_record {:?} into {out}", Short(record))
             }

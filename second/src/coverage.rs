@@ -12,6 +12,7 @@ const CAN_GIVE: &[(&str, &[u32])] = &[
     ("replay", &[WORLD, ROOM, LOG, STEP, DONE]),
     ("digest", &[FAULT, DONE]),
     ("shown", &[FAULT, CARRIER, DONE]),
+    ("rope_step", &[ROOM, ROPE, DONE]),
     ("read_record", &[MALFORMED, CARRIER, LEVER, STEP, ROOM, DONE]),
     ("write_record", &[CARRIER, LEVER, STEP, ROOM, DONE]),
     ("log_sound", &[0, 1]),

@@ -40,6 +40,10 @@ impl Station for Library {
         wuthracomb::shown(carrier, cells, boxes, state, rows, log, session, out)
     }
 
+    fn rope_step(&self, kinds: &[u32], numbers: &[f64], point: &mut [f64]) -> u32 {
+        wuthracomb::rope_step(kinds, numbers, point)
+    }
+
     fn read_record(&self, record: &[u8], out: &mut [u32]) -> u32 {
         wuthracomb::read_record(record, out)
     }

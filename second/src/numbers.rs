@@ -17,6 +17,8 @@ pub const LOG: u32 = 13;
 pub const FAULT: u32 = 14;
 /// Of a hanging load (02 §7).
 pub const LOAD: u32 = 17;
+/// Of a rope end (02 §8).
+pub const ROPE: u32 = 18;
 /// An accepted call other than a delivery.
 pub const DONE: u32 = 255;
 

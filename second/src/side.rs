@@ -180,6 +180,11 @@ impl<'s> Side<'s> {
             Act::Shown { carrier, out } => writing(*out, |out: &mut [f64]| {
                 self.call(|station, lent| station.shown(*carrier, lent, out))
             }),
+            Act::RopeStep { kinds, numbers, point } => reading(kinds, |kinds| {
+                reading(numbers, |numbers| {
+                    changing(point, |point| station.rope_step(kinds, numbers, point))
+                })
+            }),
             Act::ReadRecord { record, out } => {
                 reading(record, |record| writing(*out, |out| station.read_record(record, out)))
             }

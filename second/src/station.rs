@@ -53,6 +53,7 @@ pub trait Station {
     fn replay(&self, yard: Shape, steps: u32, lent: &mut Lent, log: &[u8]) -> u32;
     fn digest(&self, lent: &Lent, out: &mut [u32]) -> u32;
     fn shown(&self, carrier: u32, lent: &Lent, out: &mut [f64]) -> u32;
+    fn rope_step(&self, kinds: &[u32], numbers: &[f64], point: &mut [f64]) -> u32;
     fn read_record(&self, record: &[u8], out: &mut [u32]) -> u32;
     fn write_record(&self, step: u32, carrier: u32, lever: u32, out: &mut [u8]) -> u32;
     fn log_sound(&self, log: &[u8]) -> u32;

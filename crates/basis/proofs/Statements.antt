@@ -24,6 +24,7 @@ table =
       log = refl;
       fault = refl;
       load = refl;
+      rope = refl;
     }
 
 pub exactlyWhen : ExactlyWhen

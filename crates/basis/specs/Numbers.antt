@@ -68,6 +68,11 @@ FAULT = 14
 abbrev pub LOAD : ℕ
 LOAD = 17
 
+-- 'More than eight forces, a number of the point or of a counted force that isn't finite, or a
+-- result that isn't finite' (02 §8)
+abbrev pub ROPE : ℕ
+ROPE = 18
+
 -- 'There are B carriers, 1 to 32'
 abbrev pub mostCarriers : ℕ
 mostCarriers = 32

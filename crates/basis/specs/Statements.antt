@@ -9,7 +9,7 @@ use lib.ListN.{length}
 use Rattle.basis.specs.Order.{refused, accepted, Order, check, answer, First, Passed}
 use Rattle.basis.specs.Order.{andThen}
 use Rattle.basis.specs.Numbers.{TAKEN, HELD, MALFORMED, CARRIER, LEVER, STEP, CONFLICT, LATE}
-use Rattle.basis.specs.Numbers.{FULL, WORLD, ROOM, BACKWARD, END, LOG, FAULT, LOAD}
+use Rattle.basis.specs.Numbers.{FULL, WORLD, ROOM, BACKWARD, END, LOG, FAULT, LOAD, ROPE}
 use Rattle.basis.specs.LittleEndian.{valueOf, littleEndian, Bytes}
 
 -- 'Numbers given back': each name and its number.
@@ -31,6 +31,8 @@ pub record Table : Type 0 where
   pub fault : FAULT ≡ 14
   -- 'refused as 17' (02 §7)
   pub load : LOAD ≡ 17
+  -- 'refused as 18' (02 §8)
+  pub rope : ROPE ≡ 18
 
 -- 'each given exactly when its rule says' (demand 1): what holds of any order at all. What document
 -- 01's own orders give, and when, is said in plain facts in `demands`.

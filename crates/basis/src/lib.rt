@@ -37,6 +37,8 @@ impl Number {
 
     // Document 02, §7.
     pub const LOAD: u8 = 17;
+    // Document 02, §8.
+    pub const ROPE: u8 = 18;
 }
 
 pub struct Limit {}

@@ -5,4 +5,5 @@ pub mod OneRecord
 pub mod Loading
 pub mod Showing
 pub mod Leaving
+pub mod Ropes
 pub mod Statements

@@ -1,6 +1,7 @@
 -- The statements of specs/Statements.antt, proved.
-use Prim.Native.Nat.{ℕ}
+use Prim.Native.Nat.{ℕ, _*_}
 use mathlib.Core.Path.{_≡_, refl, sym, _∙_}
+use mathlib.Core.Logic.{_⊎_, _≢_, inl, inr}
 use mathlib.Core.Bool.{Bool, true, false, _&&_}
 use mathlib.Core.List.{List, [], _∷_}
 use native.Mathlib.Omega.{arith}
@@ -8,7 +9,7 @@ use lib.Dec.{eqb}
 use lib.Ieee.{Float}
 use lib.IntN.{ℤ}
 use lib.ListN.{length}
-use borrow.Author.Tests.{eq-eqb, ne-eqb}
+use borrow.Author.Tests.{eq-eqb, ne-eqb, eqb-true}
 use Rattle.basis.specs.Numbers.{ROOM, FAULT}
 use Rattle.basis.specs.Order.{Order, answer, refused, andThen, give}
 use Rattle.basis.proofs.Order.{passes, fails, one-result}
@@ -16,6 +17,7 @@ use Rattle.basis.proofs.Tests.{never, and-both}
 use Rattle.load.specs.Step.{stepOrder}
 use Rattle.yard.specs.Rule9.{rangesHold}
 use Rattle.yard.specs.declared.world.Yard.{Yard}
+use Rattle.rope.specs.Step.{ropeOrder}
 use Rattle.session.specs.Calls.{worldOrder, openOrder, readingOrder, deliverOrder}
 use Rattle.session.specs.Calls.{digestOrder, shownOrder}
 use Rattle.session.specs.Lent.{Lent}
@@ -25,11 +27,13 @@ use Rattle.session.proofs.Good.{bad-ranges}
 use Rattle.station.specs.Words.{sessionWords, sessionOf, nine}
 use Rattle.station.specs.Face.{openFace, readingFace, deliverFace, shows, digestFace}
 use Rattle.station.specs.Face.{shownFace, stepRecordsFace, loadOf, loadStepFace}
+use Rattle.station.specs.Ropes.{kindsHold, forceOf, forcesOf, pointOf, ropeFace}
 use Rattle.station.specs.Statements.{NineWords, Determined, Refusals}
-use Rattle.station.specs.Statements.{Lengths, Thin, LoadFace}
+use Rattle.station.specs.Statements.{Lengths, Thin, LoadFace, TwoNumbers}
 use Rattle.station.proofs.Loading.{load-numbers}
 use Rattle.station.proofs.OneRecord.{read-no-room, not-eight}
 use Rattle.station.proofs.Showing.{wrong-out, shows-order}
+use Rattle.station.proofs.Ropes.{wrong-numbers, wrong-point}
 
 session-back : (words : List ℕ) → length words ≡ 9 → sessionWords (sessionOf words) ≡ words
 unfolding sessionWords sessionOf
@@ -59,6 +63,7 @@ determined =
       replay = λ yard steps cells boxes state log. one-result;
       digest = λ l words out. one-result;
       shown = λ carrier l words out. one-result;
+      ropeStep = λ kinds numbers point. one-result;
     }
 
 pub refusals : Refusals
@@ -142,6 +147,18 @@ load-room : (stiffness : ℕ) (words : List ℤ) → (length words ≡ 2 → ⊥
 unfolding loadStepFace
 load-room stiffness words h = fails _ _ (ne-eqb _ _ h)
 
+rope-room : (kinds : List ℕ) (numbers point : List Float)
+    → (length numbers ≡ 2 * length kinds → ⊥) ⊎ (length point ≡ 2 → ⊥)
+    → answer (ropeFace kinds numbers point) ≡ refused ROOM
+rope-room kinds numbers point wrong = go (eqb (length numbers) (2 * length kinds)) refl wrong
+  where
+    go : (t : Bool) → eqb (length numbers) (2 * length kinds) ≡ t
+        → (length numbers ≡ 2 * length kinds → ⊥) ⊎ (length point ≡ 2 → ⊥)
+        → answer (ropeFace kinds numbers point) ≡ refused ROOM
+    go false e h = wrong-numbers kinds numbers point e
+    go true e (inl h) = absurd (h (eqb-true _ _ e))
+    go true e (inr h) = wrong-point kinds numbers point e h
+
 pub lengths : Lengths
 lengths =
     record {
@@ -159,6 +176,7 @@ lengths =
       readRecord = λ bytes out r. read-no-room bytes out;
       writeRecord = λ step carrier lever out r. not-eight step carrier lever out;
       loadStep = load-room;
+      ropeStep = rope-room;
     }
 
 readings : (reading : ℕ) (l : Lent) (words : List ℕ) → length words ≡ 9
@@ -192,6 +210,24 @@ load-steps : (stiffness : ℕ) (words : List ℤ) → length words ≡ 2
 unfolding loadStepFace
 load-steps stiffness words two = passes _ _ (eq-eqb _ _ two)
 
+steps-rope : (kinds : List ℕ) (numbers point : List Float)
+    → length numbers ≡ 2 * length kinds → length point ≡ 2 → kindsHold kinds ≡ true
+    → answer (ropeFace kinds numbers point)
+    ≡ answer (andThen (ropeOrder (pointOf point) (forcesOf kinds numbers) (length kinds))
+    (λ next. give (next .place ∷ next .speed ∷ [])))
+unfolding ropeFace
+steps-rope kinds numbers point two long known =
+    passes _ _ (eq-eqb _ _ two) ∙ passes _ _ (eq-eqb _ _ long) ∙ passes _ _ known
+
+-- A kind that isn't 1.
+second-unused : (kind : ℕ) (first second other : Float) → kind ≢ 1
+    → forceOf kind first second ≡ forceOf kind first other
+unfolding forceOf
+second-unused kind first second other h = rw (ne-eqb kind 1 h)
+
+pub twoNumbers : TwoNumbers
+twoNumbers = record { unused = second-unused }
+
 pub thin : Thin
 thin =
     record {
@@ -201,6 +237,7 @@ thin =
       digest = digests;
       shown = shows-place;
       loadStep = load-steps;
+      ropeStep = steps-rope;
     }
 
 session-forth : (s : Session) → sessionOf (sessionWords s) ≡ s

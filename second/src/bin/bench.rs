@@ -49,6 +49,7 @@ const LINES: &[Line] = &[
         times: 32,
         steps: BACK,
     },
+    Line { name: "1,000 steps of a rope end", ready: full, work: rope, times: 20, steps: 0 },
     Line { name: "soundness of a full log", ready: full, work: log_sound, times: 500, steps: 0 },
     Line { name: "digest of a full session", ready: full, work: digest, times: 500, steps: 0 },
     Line { name: "1,000 steps of a hanging load", ready: full, work: load, times: 20, steps: 0 },
@@ -162,6 +163,16 @@ fn deliveries(station: &dyn Station, buffers: &mut Buffers, _: &Ground) {
         let record = record(step as u32, carrier, carrier % 10);
         assert_eq!(station.deliver(&record, &mut lent), TAKEN);
     }
+}
+
+/// Three forces; the point that is left goes into the session, where the two are compared.
+fn rope(station: &dyn Station, buffers: &mut Buffers, _: &Ground) {
+    let (kinds, numbers) = ([0, 1, 2], [-9.81, 0.0, 40.0, 1.5, 0.35, 0.0]);
+    let mut point = [1.0, 0.0];
+    for _ in 0..20_000 {
+        assert_eq!(station.rope_step(&kinds, &numbers, &mut point), DONE);
+    }
+    buffers.session[..2].copy_from_slice(&point.map(f64::to_bits));
 }
 
 fn log_sound(station: &dyn Station, _: &mut Buffers, ground: &Ground) {

@@ -12,6 +12,7 @@ mod levers;
 mod load;
 mod log;
 mod record;
+mod rope;
 mod session;
 mod shown;
 mod step;

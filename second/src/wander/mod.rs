@@ -6,6 +6,7 @@
 
 mod damage;
 mod load;
+mod rope;
 mod values;
 
 use crate::act::{Act, Slice};
@@ -31,6 +32,11 @@ pub fn run(other: &dyn Station, seed: u64) -> Run {
 /// Makes a run of this seed that has only steps of hanging loads.
 pub fn run_of_loads(other: &dyn Station, seed: u64) -> Run {
     run_of(|wander| wander.loads(60), other, seed)
+}
+
+/// Makes a run of this seed that has only steps of rope ends.
+pub fn run_of_ropes(other: &dyn Station, seed: u64) -> Run {
+    run_of(|wander| wander.ropes(60), other, seed)
 }
 
 fn run_of<'s>(
@@ -70,7 +76,8 @@ impl<'s> Wander<'s> {
             1 | 2 => self.valid(false)?,
             _ => self.valid(true)?,
         }
-        self.loads(5)
+        self.loads(5)?;
+        self.ropes(5)
     }
 
     /// A valid world opened, then calls in any order; with damage between them if asked.

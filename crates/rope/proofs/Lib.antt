@@ -1,0 +1,8 @@
+-- Laws of the rope ends' definitions.
+pub mod Calls
+pub mod Numbers
+pub mod Counted
+pub mod Steps
+pub mod Own
+pub mod Rule18
+pub mod Statements
