@@ -2,7 +2,7 @@
 of the public entries, and what each of them names.
 
 A public entry is a function that its crate's lib.rt gives out and that has no `requires`; of a crate with C functions,
-each of those. A crate that stands on the kit's io is a program's, and gives out none.
+each of those. A crate that stands on the kit's io is a program's: its entry is the function `program`, if it has one.
 """
 import os
 import re
@@ -10,6 +10,7 @@ import textwrap
 
 WORD = re.compile(r"[^\s(){},;:.∷→≡×λ⌜⌝]+")
 START = re.compile(r"(?:abbrev pub|unfoldable pub|pub record|pub data|pub(?! mod))\s+([^\s:({]+)")
+PROGRAM = re.compile(r"^fn program\(.*?\n\{\n", re.S | re.M)
 HEAD = re.compile(r"^( *)pub (extern \"C\" )?fn (\w+)(.*?)\n\1\{\n", re.S | re.M)
 SPECS = r"^(?:ghost )?use Rattle·(\w+)(?:·specs)?\.specs\."
 DEFINITION, TYPE, ENTRY = "definition", "type", "entry"
@@ -92,6 +93,13 @@ def entries(crate, path, lib, foreign):
         yield Item(ENTRY, crate, path, name, text.split("\n"), first, first + head[0].count("\n") - 1)
 
 
+def program(crate, path):
+    text = read(path)
+    for head in PROGRAM.finditer(text):
+        first = text.count("\n", 0, head.start())
+        yield Item(ENTRY, crate, path, "program", text.split("\n"), first, first + head[0].count("\n") - 1)
+
+
 class Tree:
     """All items, those of lower crates first, and what each leads to."""
 
@@ -107,7 +115,7 @@ class Tree:
                     self.at.setdefault((item.path, part), item)
         scopes = {item.path: self.scope(item) for item in self.items}
         for item in self.items:
-            words = {word for line in item.believed() for word in WORD.findall(line)}
+            words = {word for line in item.believed() for word in WORD.findall(line) + re.findall(r"\w+\.(?=\w)", line)}
             known = {word: other for word, other in scopes[item.path].items() if word in words and other is not item}
             item.leads = set(known.values())
             item.aliases = {word: other for word, other in known.items()
@@ -118,7 +126,7 @@ class Tree:
         return max((1 + self.floor(below) for below in self.below.get(crate, [])), default=0)
 
     def crate(self, crate):
-        """A crate's types, then its definitions, then the heads of its entries; of a program the definitions alone."""
+        """A crate's types, then its definitions, then the heads of its entries; of a program no types."""
         source = files(f"crates/{crate}/src", ".rt", "lib.rt", r"^(?:pub )?mod (\w+);")
         specs = files(f"crates/{crate}/specs", ".antt", "Lib.antt", r"^pub mod (\w+)")
         lib = "" if "io" in self.below[crate] else read(f"crates/{crate}/src/lib.rt")
@@ -126,7 +134,7 @@ class Tree:
         found = [item for path in source for item in types(crate, path)] if lib else []
         found += [item for path in specs for item in definitions(crate, path)]
         found += [item for path in source for item in entries(crate, path, lib, foreign)] if lib else []
-        return found
+        return found + list(program(crate, f"crates/{crate}/src/main.rt"))
 
     def scope(self, item):
         """What the words of an item's file lead to."""
@@ -140,7 +148,8 @@ class Tree:
                 SPECS + r"declared\.([\w.]+?)\.(\{[^}]*\}|the-variants as \w+)", text, re.M):
             *folders, name = place.split(".")
             path = f"crates/{crate}/src/{'/'.join(folders) or 'lib'}.rt"
-            known[re.findall(r"\w+", names)[-1]] = self.at.get((path, name))
+            form = "." if names.startswith("the-variants") else ""
+            known[re.findall(r"\w+", names)[-1] + form] = self.at.get((path, name))
         if item.path.endswith(".rt"):
             for other in self.items:
                 if other.kind == TYPE and (other.crate == item.crate

@@ -11,8 +11,10 @@ begin_watch() {
     watcher=$!
 }
 
-# end_watch: ends it, once it has looked for the last time.
+# end_watch: ends it, once it has looked for the last time. A shell that has just been forked may lose
+# the signal, so a file says it too.
 end_watch() {
+    : > "$scratch/watched"
     { kill -s TERM "$watcher"; wait "$watcher"; } 2> /dev/null
     watcher=''
 }
@@ -22,11 +24,13 @@ watch() {
     exec 3<&- 9>&-
     told=' '
     trap 'look; erase; exit 0' TERM
-    while kill -0 $$ 2> /dev/null; do
+    while [ ! -e "$scratch/watched" ] && kill -0 $$ 2> /dev/null; do
         look
         sleep 1 > /dev/null 2>&1 &
         wait $!
     done
+    look
+    erase
 }
 
 # look: says each crate that rt has begun since the last look. On a terminal it is one line that

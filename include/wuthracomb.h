@@ -2,8 +2,8 @@
 
    A yard of box-shaped carriers run in steps of 20,000 microseconds, a log of
    lever records, late records by going back, and replay of a log; beside them
-   the hanging load of document 02.  Documents 01 and 02 decide what every call
-   does; this file says how C calls it.
+   the hanging load and the rope ends of document 02.  Documents 01 and 02
+   decide what every call does; this file says how C calls it.
 
    Every function ends for any numbers and any bytes, and keeps nothing between
    calls: all that lasts is in the slices that the caller lends.
@@ -39,6 +39,9 @@
 
    Machine.  x86-64, System V calling convention.
 
+   Floats.  The caller's floating-point mode is the default one: round to
+   nearest, subnormal numbers kept (wuthracomb_shown, wuthracomb_rope_step).
+
    A record is 8 bytes: at a step, a carrier's lever moves to a position.
 
      bytes 0 to 3  step, unsigned, the least byte first; 0 to 179,999
@@ -70,7 +73,7 @@
 extern "C" {
 #endif
 
-/* The numbers of documents 01 and 02. */
+/* The numbers of document 01. */
 
 #define WUTHRACOMB_TAKEN      0u  /* the record is now held */
 #define WUTHRACOMB_HELD       1u  /* the same 8 bytes are already held */
@@ -338,8 +341,7 @@ uint32_t wuthracomb_load_step(uint32_t stiffness, int32_t *load, size_t load_len
            a number that a force uses isn't finite, or the place or the speed
            after the whole sum and move isn't finite.
 
-   DONE: point is written, nothing else.  The caller's floating-point mode is
-   the default one: round to nearest, subnormal numbers kept.
+   DONE: point is written, nothing else.
 */
 uint32_t wuthracomb_rope_step(const uint32_t *kinds, size_t kinds_len,
                               const double *numbers, size_t numbers_len,

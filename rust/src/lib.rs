@@ -1,5 +1,6 @@
 //! Wuthracomb from Rust: a yard of box-shaped carriers run in steps of equal length, a log of lever
-//! records, late records by going back, and replay of a log.
+//! records, late records by going back, and replay of a log; beside them the hanging load and the
+//! rope ends of document 02.
 //!
 //! Each function is the one of `include/wuthracomb.h` with its name, and each slice stands for a
 //! pointer and its length. The header says of each function what it refuses, in which order, and

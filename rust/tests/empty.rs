@@ -288,6 +288,8 @@ fn a_rope_end_without_forces_and_nothing() {
         assert_eq!(wuthracomb_rope_step(null(), 0, null(), 0, point.as_mut_ptr(), 2), DONE);
         assert_eq!(wuthracomb_rope_step(&PULL, 1, null(), 0, point.as_mut_ptr(), 2), ROOM);
         assert_eq!(wuthracomb_rope_step(null(), 0, [1.0; 2].as_ptr(), 2, null_mut(), 0), ROOM);
+        assert_eq!(wuthracomb_rope_step(null(), 0, [1.0; 2].as_ptr(), 2, point.as_mut_ptr(), 2), ROOM);
+        assert_eq!(wuthracomb_rope_step(&PULL, 1, [1.0; 2].as_ptr(), 2, null_mut(), 0), ROOM);
         assert_eq!(wuthracomb_rope_step(null(), 0, null(), 0, null_mut(), 0), ROOM);
     }
     assert_eq!(point, [1.01, 0.5]);

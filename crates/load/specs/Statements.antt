@@ -49,7 +49,8 @@ pub record Change (p : ℕ) (before after : Load) : Type 0 where
   pub shorter : energy p after -ℤ energy p before
       ≡ remainder p (before .x) *ℤ (before .v +ℤ after .v)
 
--- 'the energy differs from that at the beginning by at most n·D·(2·M + 1)': neither more nor less.
+-- 'the energy differs from that at the beginning by at most n·D·(2·M + 1)': neither upward nor
+-- downward by more.
 pub record Drift (p m n : ℕ) (first last : Load) : Type 0 where
   pub up : (energy p last -ℤ energy p first) ≤ℤ pos (n * D * (2 * m + 1))
   pub down : (energy p first -ℤ energy p last) ≤ℤ pos (n * D * (2 * m + 1))

@@ -1,6 +1,5 @@
 // Document 01, 'Numbers given back': records, worlds, lengths and sessions that are refused, by the
-// calls of `session` on real buffers. The file `stdout` holds what a model gives that was written
-// from document 01 alone.
+// calls of `session` on real buffers. The file `stdout` holds what the model of second/ gives.
 use clock::Clock;
 use desk::Practice;
 use desk::answers;

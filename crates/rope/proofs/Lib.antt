@@ -1,5 +1,4 @@
 -- Laws of the rope ends' definitions.
-pub mod Calls
 pub mod Numbers
 pub mod Counted
 pub mod Steps

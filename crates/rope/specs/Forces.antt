@@ -9,10 +9,11 @@ use Rattle.rope.specs.declared.Point.{Point}
 use Rattle.rope.specs.declared.Force.{Force}
 use Rattle.rope.specs.declared.Force.the-variants.{Pull, Spring, Drag}
 
--- 0.0, and -0.0.
+-- 0.0
 abbrev pub plusZero : Float
 plusZero = fin false 0 (pos 0)
 
+-- -0.0
 abbrev pub minusZero : Float
 minusZero = fin true 0 (pos 0)
 

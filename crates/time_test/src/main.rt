@@ -1,5 +1,5 @@
 // Document 01, 'The clock' and the shown place, by the calls of `session` on real buffers. The file
-// `stdout` holds what a model gives that was written from document 01 alone.
+// `stdout` holds what the model of second/ gives.
 use clock::Clock;
 use desk::Practice;
 use desk::say;

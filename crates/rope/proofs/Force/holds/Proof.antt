@@ -1,6 +1,6 @@
 -- `holds` meets its contract.
 use Rattle.rope.specs.Forces.{finiteForce}
-use Rattle.rope.proofs.Calls.{passed, failed}
+use Rattle.basis.proofs.Tests.{passed, failed}
 use borrow.Author.Needs.{needs}
 use Rattle.rope.proofs.Force.holds.Statement.{statement}
 use Rattle.rope.proofs.Force.holds.Tie as tie

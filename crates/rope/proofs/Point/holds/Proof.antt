@@ -1,6 +1,6 @@
 -- `holds` meets its contract.
 use Rattle.rope.specs.Step.{finitePoint}
-use Rattle.rope.proofs.Calls.{passed, failed}
+use Rattle.basis.proofs.Tests.{passed, failed}
 use borrow.Author.Needs.{needs}
 use Rattle.rope.proofs.Point.holds.Statement.{statement}
 use Rattle.rope.proofs.Point.holds.Tie as tie

@@ -7,7 +7,7 @@ use lib.ListN.{take, drop}
 use Rattle.basis.specs.Order.{accepted}
 use Rattle.rope.specs.Forces.{sumOf, sumFrom, finiteForces}
 use Rattle.rope.specs.Step.{finitePoint, movedBy, movedUnder}
-use Rattle.rope.proofs.Calls.{passed, failed}
+use Rattle.basis.proofs.Tests.{passed, failed}
 use Rattle.rope.proofs.Counted.{none-left, sum-next, next-fails, next-holds}
 use Rattle.rope.proofs.Numbers.{zero-bits}
 use Rattle.rope.proofs.Steps.{too-many, bad-point, bad-force, bad-result, moves}
