@@ -11,8 +11,7 @@ use Rattle.yard.specs.Statements.{
   Move,
   Step,
 }
-use Rattle.yard.specs.Levers.{brake, braked}
-use Rattle.yard.proofs.Brake.{ten, past, forward, backward, stands}
+use Rattle.yard.proofs.Brake.{ten, past, forward, backward, stands, from-25, from-minus-3}
 use Rattle.yard.proofs.Every.{passes, all-pass}
 use Rattle.yard.proofs.Fits.{ranges, cells, sizes, starts}
 use Rattle.yard.proofs.Limits.{push-within, speed-within}
@@ -41,7 +40,6 @@ pub table : Table
 table = record { nine = refl; push = push-within; speed = speed-within }
 
 pub brake : Brake
-unfolding brake braked
 brake =
     record {
       ten = ten;
@@ -49,8 +47,8 @@ brake =
       forward = forward;
       backward = backward;
       stands = stands;
-      from25 = (refl, refl, refl);
-      from3 = refl;
+      from25 = from-25;
+      fromMinus3 = from-minus-3;
     }
 
 pub move : Move

@@ -81,7 +81,7 @@ pub record Brake : Type 0 where
   -- '25 becomes 15, then 5, then 0; -3 becomes 0.'
   pub from25 : (braked 1 (pos 25) ≡ pos 15) × (braked 2 (pos 25) ≡ pos 5)
       × (braked 3 (pos 25) ≡ pos 0)
-  pub from3 : braked 1 (minus 3) ≡ pos 0
+  pub fromMinus3 : braked 1 (minus 3) ≡ pos 0
 
 -- Parts 3 and 4 of 'One step': so many units are moved, whatever places are free.
 pub record Walked (free : ℤ → ℤ → Bool) (axis : Axis) (speed x y : ℤ) (units : ℕ) : Type 0 where
