@@ -6,6 +6,7 @@ use native.Mathlib.Omega.{arith}
 use lib.IntN.{pos}
 use lib.ListN.{replicate}
 use Rattle.basis.specs.Order.{Answer, refused, accepted}
+use Rattle.basis.proofs.Order.{mapped}
 use Rattle.record.specs.Held.{bufferOf}
 use Rattle.fleet.specs.State.{World}
 use Rattle.course.specs.Session.{Session, opening}
@@ -20,7 +21,7 @@ use Rattle.session.proofs.Openings.{opened-says}
 use Rattle.demands.specs.Handed.{Handed, handsOn, next, afterCalls}
 use Rattle.demands.specs.Handed.{Opened, Reached}
 use Rattle.demands.proofs.Model.{Opens, model, lawful}
-use Rattle.demands.proofs.Ties.{handed, mapped, asRead, asDelivered}
+use Rattle.demands.proofs.Ties.{handed, asRead, asDelivered}
 use Rattle.demands.proofs.Ties.{same-reading, same-delivery}
 
 module _ (world : World) (opens : Opens world) where
