@@ -14,7 +14,7 @@ use lib.Seq.{length-take-le}
 use Rattle.basis.specs.Order.{Answer, refused, accepted, give, answer}
 use Rattle.basis.proofs.Order.{passes, apart, mapped, then-alike}
 use Rattle.record.specs.Bytes.{readOrder}
-use Rattle.record.specs.Held.{bufferOf, putIn}
+use Rattle.record.specs.Buffer.{bufferOf, putIn}
 use Rattle.record.specs.Place.{byPlace}
 use Rattle.record.specs.declared.bytes.Record.{Record}
 use Rattle.record.proofs.Placing.{place-alike}

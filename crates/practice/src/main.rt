@@ -119,11 +119,11 @@ fn visit(yard: Yard, cells: &[u8], boxes: &[i32], log: &[u8], stops: &[u32], sta
             yard,
             cells,
             boxes,
+            state,
             log,
             log.len() / Record::SIZE,
             made,
             stop,
-            state,
         );
         made = stop;
         show(made, state);

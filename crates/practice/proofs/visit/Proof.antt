@@ -50,7 +50,7 @@ show-requires c κs =
     let s = l .before .before .before .before in
     omega (
       arith,
-      r .run .kept .1 .1 .1 .1 .1 .1 .1 .0,
+      r .run .kept .1 .1 .1 .0,
       l .loop .inv .1 .room,
       s .pre .1 .0,
     )
@@ -68,7 +68,7 @@ loop-again c =
     let s = l .before .before .before .before in
     let log = now (s .args .log) in
     let a = all-within (s .args .yard .b) (length log / 8) log (s .pre .1 .1 .0 .unrefused) in (
-      r .run .kept .1 .1 .1 .1 .1 .1 .1 .0 ∙ l .loop .inv .0,
+      r .run .kept .1 .1 .1 .0 ∙ l .loop .inv .0,
       rw (r .run .ensures) (run-keeps _ _ (l .loop .made) _ (l .loop .state) a (l .loop .inv .1)),
     )
 

@@ -7,7 +7,7 @@ use lib.IntN.{ℤ}
 use lib.ListN.{length}
 use borrow.Author.Needs.{needs}
 use Rattle.yard.specs.declared.world.Yard.{Yard}
-use Rattle.yard.specs.World.{CellsFit, BoxesFit}
+use Rattle.yard.specs.Boxes.{CellsFit, BoxesFit}
 use Rattle.yard.proofs.Cases.{passed}
 use Rattle.fleet.proofs.Starts.{start-fits, log-fits}
 use Rattle.practice.proofs.walk.Statement.{statement}
