@@ -11,7 +11,7 @@ use Rattle.basis.specs.Order.{Answer, refused, accepted, answer}
 use Rattle.basis.proofs.Order.{apart}
 use Rattle.basis.proofs.Tests.{never}
 use Rattle.record.specs.Bytes.{recordOf}
-use Rattle.record.specs.Held.{bufferOf}
+use Rattle.record.specs.Buffer.{bufferOf}
 use Rattle.record.specs.declared.bytes.Record.{Record}
 use Rattle.fleet.specs.State.{World}
 use Rattle.course.specs.Session.{Session}

@@ -6,7 +6,7 @@ use native.Mathlib.Omega.{arith}
 use lib.IntN.{pos}
 use lib.ListN.{replicate}
 use Rattle.basis.specs.Order.{Answer, refused, accepted}
-use Rattle.record.specs.Held.{bufferOf}
+use Rattle.record.specs.Buffer.{bufferOf}
 use Rattle.fleet.specs.State.{World}
 use Rattle.course.specs.Session.{Session, opening}
 use Rattle.course.specs.Calls.{Call, reading, delivery, Outcome, read, taken, held as outcomeHeld}

@@ -15,7 +15,7 @@ use Rattle.basis.specs.Numbers.{CONFLICT, FULL, LATE, FAULT}
 use Rattle.basis.specs.Order.{Answer, refused, accepted, Order, check, give, answer, andThen}
 use Rattle.basis.proofs.Order.{passes, stops, goes-on, apart}
 use Rattle.record.specs.Bytes.{readOrder}
-use Rattle.record.specs.Held.{bufferOf, putIn}
+use Rattle.record.specs.Buffer.{bufferOf, putIn}
 use Rattle.record.specs.Place.{Found, byLever, byPlace}
 use Rattle.record.specs.declared.bytes.Record.{Record}
 use Rattle.record.proofs.Climbs.{ascends}

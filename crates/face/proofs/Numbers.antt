@@ -15,7 +15,7 @@ use Rattle.basis.specs.Order.{Answer, refused, accepted, Order, answer, andThen
 use Rattle.basis.proofs.Tests.{never, says-eq, says-two, says-three}
 use Rattle.record.specs.Bytes.{recordOf, wellFormed, readOrder, writeOrder, limitsOrder}
 use Rattle.record.specs.Facts.{Formed, LogValid}
-use Rattle.record.specs.Held.{leverAt}
+use Rattle.record.specs.Buffer.{leverAt}
 use Rattle.record.specs.Log.{soundLog}
 use Rattle.record.specs.Place.{byLever, rowServes}
 use Rattle.record.specs.declared.bytes.Record.{Record}

@@ -10,20 +10,21 @@ use lib.IntN.{ℤ, pos}
 use lib.ListN.{length}
 use lib.Dec.{eqb, ltb}
 use borrow.Author.Tests.{eqb-true, eqb-false, ltb-true, ltb-false}
+use Rattle.basis.specs.declared.HeldLever.{HeldLever}
+use Rattle.basis.specs.HeldLever.{heldOf}
 use Rattle.basis.proofs.Lists.{paste-at, paste-before, paste-after}
-use Rattle.record.specs.Held.{leverAt}
+use Rattle.record.specs.Buffer.{leverAt}
 use Rattle.record.specs.declared.bytes.Record.{Record}
 use Rattle.record.proofs.Logs.{AllWithin, done, more}
 use Rattle.yard.specs.declared.carrier.Carrier.{Carrier}
-use Rattle.yard.specs.declared.carrier.Held.{Held}
-use Rattle.yard.specs.World.{sizeOf}
+use Rattle.yard.specs.Boxes.{sizeOf}
 use Rattle.yard.specs.Free.{free}
 use Rattle.yard.specs.Step.{LeverFits, step, soundCarrier}
 use Rattle.yard.proofs.Every.{all-pass, passes, each as each-says}
 use Rattle.yard.proofs.Squares.{free-at}
 use Rattle.yard.proofs.Soundness.{good-of, of-good, rule, step-sound}
 use Rattle.fleet.specs.State.{World, carrier, wordsOf, put, freeFor, soundState}
-use Rattle.fleet.specs.Step.{stepOne, stepTo, stepAll, stepAt, heldOf}
+use Rattle.fleet.specs.Step.{stepOne, stepTo, stepAll, stepAt}
 use Rattle.fleet.specs.Facts.{CarrierSound, StateSound}
 use Rattle.fleet.specs.Fits.{StateFits}
 use Rattle.fleet.specs.Statements.{EachFree}
@@ -109,7 +110,7 @@ unfolding soundState
 each-free world state e i l = good-of _ _ (passes _ _ e i l) .here
 
 -- A carrier's step keeps the state rule.
-module _ (world : World) (held : Held) (i : ℕ) (state : List ℤ) (h : i < world .yard .b)
+module _ (world : World) (held : HeldLever) (i : ℕ) (state : List ℤ) (h : i < world .yard .b)
     (fits : LeverFits held) (s : StateFits world state) where
   room : 5 * i + 5 ≤ length state
   room = omega (arith, s .room)

@@ -14,7 +14,7 @@ use Rattle.record.specs.Log.{soundLog}
 use Rattle.record.proofs.Logs.{sound}
 use Rattle.yard.specs.declared.world.Yard.{Yard}
 use Rattle.yard.specs.declared.carrier.Carrier.{Carrier}
-use Rattle.yard.specs.World.{word}
+use Rattle.yard.specs.Boxes.{word}
 use Rattle.yard.specs.Rule9.{startsHold}
 use Rattle.yard.specs.Step.{atRest}
 use Rattle.yard.proofs.Every.{all-pass}

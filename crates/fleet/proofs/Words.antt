@@ -9,7 +9,7 @@ use lib.IntN.{ℤ, pos}
 use lib.ListN.{length, getD, set, drop, length-append}
 use lib.Seq.{ext-getD, length-paste, take-at, drop-append-add, drop-drop}
 use Rattle.basis.proofs.Lists.{stored-all}
-use Rattle.yard.specs.World.{word}
+use Rattle.yard.specs.Boxes.{word}
 use Rattle.yard.specs.Step.{atRest}
 use Rattle.yard.specs.declared.carrier.Carrier.{Carrier}
 use Rattle.fleet.specs.State.{carrier, wordsOf, put, startTo}

@@ -7,7 +7,7 @@ use lib.IntN.{ℤ}
 use lib.ListN.{length, take}
 use Rattle.basis.specs.Numbers.{LOG, mostSteps}
 use Rattle.basis.specs.Order.{refused, accepted, answer}
-use Rattle.record.specs.Held.{bufferSize}
+use Rattle.record.specs.Buffer.{bufferSize}
 use Rattle.record.specs.Log.{recordsOf, soundLog}
 use Rattle.session.specs.Calls.{replayOrder}
 use Rattle.fleet.specs.Examples.{practice, twoRecords}

@@ -8,7 +8,7 @@ use lib.IntN.{ℤ}
 use lib.ListN.{length}
 use Rattle.basis.specs.Numbers.{stepLength}
 use Rattle.basis.proofs.Tests.{says-eq, says-two, says-three}
-use Rattle.record.specs.Held.{bufferSize}
+use Rattle.record.specs.Buffer.{bufferSize}
 use Rattle.record.proofs.Rules.{buffer-valid}
 use Rattle.clock.proofs.Sound.{exactly-sound}
 use Rattle.yard.specs.declared.world.Yard.{Yard}

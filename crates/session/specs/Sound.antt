@@ -5,7 +5,7 @@ use mathlib.Core.Bool.{Bool, _&&_}
 use lib.Dec.{eqb}
 use lib.ListN.{length}
 use Rattle.basis.specs.Numbers.{stepLength}
-use Rattle.record.specs.Held.{bufferSize, soundBuffer}
+use Rattle.record.specs.Buffer.{bufferSize, soundBuffer}
 use Rattle.clock.specs.Clock.{soundClock}
 use Rattle.yard.specs.declared.world.Yard.{Yard}
 use Rattle.yard.specs.Rule9.{rangesHold, cellsHold, sizesHold}

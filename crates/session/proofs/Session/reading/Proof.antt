@@ -70,10 +70,10 @@ cast-from : tie.Need-cast-from
 cast-from c = omega (arith, fits (c .before .before))
 
 cast-run-saving : tie.Need-cast-run-saving
-cast-run-saving c = omega (arith, fits (c .before .before))
+cast-run-saving c = omega (arith, fits (c .before .before .before .before))
 
 add-run-saving : tie.Need-add-run-saving
-add-run-saving c = omega (arith, fits (c .before .before))
+add-run-saving c = omega (arith, fits (c .before .before .before .before))
 
 run-saving-requires : tie.Need-run-saving-requires
 run-saving-requires c κs =
