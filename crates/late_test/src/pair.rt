@@ -1,7 +1,7 @@
 // Two carriers in the cells of the practice yard.
-use desk::Practice;
-use desk::answers;
-use desk::say;
+use fleet::Practice;
+use test_desk::answers;
+use test_desk::say;
 use record::Record;
 use session::Session;
 use yard::Yard;

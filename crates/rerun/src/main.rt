@@ -1,9 +1,9 @@
 // The program: the log on standard input, re-run in the practice yard (document 01, 'The program').
-//   practice  what a log comes to
-//   text      the lines of it
-//   input     standard input, however it is cut into reads
+//   ended  what a log comes to
+//   text   the lines of it
+//   input  standard input, however it is cut into reads
+mod ended;
 mod input;
-mod practice;
 mod text;
 
 ghost use mathlib.Core.Path.{_≡_};
@@ -12,11 +12,11 @@ ghost use lib.ListN.{length, take};
 ghost use Rattle.basis.specs.Order.{answer};
 ghost use Rattle.rerun.specs.Rerun.{programOrder};
 ghost use Rattle.rerun.specs.Text.{programText};
+use ended::rerun;
 use input::Input;
 use input::read_input;
 use libc::STDERR_FILENO;
 use libc::STDOUT_FILENO;
-use practice::rerun;
 use record::Buffer;
 use text::Text;
 use text::lines;

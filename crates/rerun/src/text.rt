@@ -5,7 +5,7 @@ ghost use mathlib.Core.List.{_++_};
 ghost use Prim.Native.Nat.{_+_, _≤_};
 ghost use lib.ListN.{length, take};
 ghost use Rattle.rerun.specs.Text.{decimal, linesOf, wordText, wordsText};
-use super::practice::Ended;
+use super::ended::Ended;
 use session::Replayed;
 use yard::magnitude;
 
