@@ -57,13 +57,15 @@ module _ {A B : Type 0} (count : ℕ) (out : List B) (words : List ℕ) (order :
 
   pub shows-given : {a : A} {after : List B} → answer order ≡ accepted a → after ≡ parts a
       → filled DONE after ≡ fills out (answer (shows count out words order parts))
-  shows-given q put = ap (filled DONE) put ∙ sym (ap (fills out) (decides ∙ goes-on _ _ q ∙ gives _))
+  shows-given q put =
+      ap (filled DONE) put ∙ sym (ap (fills out) (decides ∙ goes-on _ _ q ∙ gives _))
 
 -- Where it fails, 14: the session is tested first in what is shown.
 pub shows-unasked : {A B : Type 0} (count : ℕ) (out : List B) (words : List ℕ) (l : Lent)
     (rest : Order A) (parts : A → List B) → asked count out words ≡ false
     → filled FAULT out
-    ≡ fills out (answer (shows count out words (check (sound (sessionOf words) l) FAULT rest) parts))
+    ≡ fills out
+    (answer (shows count out words (check (sound (sessionOf words) l) FAULT rest) parts))
 unfolding shows andThen
 shows-unasked count out words l rest parts e =
     sym (ap (fills out) (go (eqb (length out) count) refl))

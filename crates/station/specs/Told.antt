@@ -8,7 +8,8 @@ use Rattle.session.specs.declared.Session.{Session}
 use Rattle.station.specs.Left.{DONE}
 use Rattle.station.specs.Words.{sessionWords}
 
--- A refusal's number, and the words as before; of what is given its number, and its session's words.
+-- A refusal's number and the words as before, or the number and the session's words of what is
+-- given.
 abbrev pub tellsBy : {A : Type 0} → (A → ℕ) → (A → Session) → List ℕ → Answer A → Filled ℕ ℕ
 tellsBy itsNumber itsSession words (refused number) = filled number words
 tellsBy itsNumber itsSession words (accepted a) =

@@ -1,5 +1,5 @@
--- `Clock::tick` meets its contract: its three answers are outcomes of a sound clock, and what such a
--- clock counts fits its words.
+-- `Clock::tick` meets its contract: its three answers are outcomes of a sound clock, and what it
+-- counts fits its words.
 use mathlib.Core.Path.{sym}
 use native.Mathlib.Omega.{arith}
 use borrow.Author.Needs.{needs}

@@ -1,13 +1,15 @@
 -- `worlds::check_world` meets its contract.
-use mathlib.Core.Bool.{true}
+use mathlib.Core.Bool.{Bool, true}
 use mathlib.Core.Path.{_≡_, sym}
 use denote.Ref.{now}
 use borrow.Author.Needs.{needs}
 use borrow.Author.Tests.{not-true, not-false}
-use Rattle.basis.specs.Order.{answer}
-use Rattle.yard.specs.Rule9.{rangesHold, cellsHold, sizesHold}
+use Rattle.basis.specs.Numbers.{WORLD}
+use Rattle.basis.specs.Order.{check, give, answer}
+use Rattle.yard.specs.Rule9.{rangesHold, cellsHold, sizesHold, startsHold}
 use Rattle.yard.proofs.Cases.{passed, failed}
 use Rattle.yard.proofs.Fits.{cells-fit, boxes-fit}
+use Rattle.session.specs.Calls.{worldOrder}
 use Rattle.session.proofs.Openings.{no-ranges, no-room, no-cells, no-sizes, starts-decide}
 use Rattle.session.proofs.worlds.check_world.Statement.{statement}
 use Rattle.session.proofs.worlds.check_world.Tie as tie
@@ -68,21 +70,25 @@ starts-hold-requires c κs =
       (boxes-fit _ (in-range (e .before)) _ (room .1), sized c),
     )
 
+-- The starts decide.
+decided : (h : tie.After-starts-hold) {t : Bool}
+    → let s = start (second (h .before) .before) in
+    startsHold (s .args .yard) (now (s .args .cells)) (now (s .args .boxes)) ≡ t
+    → answer (worldOrder (s .args .yard) (s .args .lengths) (now (s .args .cells))
+    (now (s .args .boxes)))
+    ≡ answer (check t WORLD (give tt))
+decided h =
+    let e = h .before in
+    starts-decide _ _ _ _ (in-range (second e .before)) (long (second e))
+    (celled (e .before .before)) (sized e)
+
 returns-5 : tie.Need-returns-5
 unfolding answer
-returns-5 c =
-    let e = c .before .before in
-    sym
-    (starts-decide _ _ _ _ (in-range (second e .before)) (long (second e)) (celled (e .before .before))
-    (sized e) (failed (c .before .starts-hold .ensures) (c .if5 .taken)))
+returns-5 c = sym (decided (c .before) (failed (c .before .starts-hold .ensures) (c .if5 .taken)))
 
 returns-6 : tie.Need-returns-6
 unfolding answer
-returns-6 c =
-    let e = c .before .before in
-    sym
-    (starts-decide _ _ _ _ (in-range (second e .before)) (long (second e)) (celled (e .before .before))
-    (sized e) (passed (c .before .starts-hold .ensures) (c .if5 .left)))
+returns-6 c = sym (decided (c .before) (passed (c .before .starts-hold .ensures) (c .if5 .left)))
 
 pub check-world-spec : {M : Type 1} → statement M
 check-world-spec =

@@ -9,12 +9,14 @@ returns c = rw (c .wide .ensures, c .before .before .delivered .given .1)
 returns-2 : tie.Need-returns-2
 returns-2 c =
     let p = c .before .before .before in
-    rw (c .wide2 .ensures, p .put-session .ensures, p .before .before .before .delivered2 .given .1)
+    let d = p .before .before .before in
+    rw (c .wide2 .ensures, p .put-session .ensures, d .delivered2 .given .1)
 
 returns-3 : tie.Need-returns-3
 returns-3 c =
     let p = c .before .before .before in
-    rw (c .wide3 .ensures, p .put-session2 .ensures, p .before .before .before .delivered3 .given .1)
+    let d = p .before .before .before in
+    rw (c .wide3 .ensures, p .put-session2 .ensures, d .delivered3 .given .1)
 
 pub told-delivery-spec : {M : Type 1} → statement M
 told-delivery-spec =

@@ -4,7 +4,6 @@ use mathlib.Core.Path.{_≡_}
 use denote.Ref.{now}
 use borrow.Author.Needs.{needs}
 use Rattle.session.specs.Calls.{deliverOrder}
-use Rattle.session.specs.Lent.{Lent, lent}
 use Rattle.yard.proofs.Cases.{passed, failed}
 use Rattle.station.specs.Face.{deliverFace}
 use Rattle.station.specs.Words.{wordsFit}
@@ -13,15 +12,10 @@ use Rattle.station.proofs.Sessions.{fit}
 use Rattle.station.proofs.calls.wuthracomb_deliver.Statement.{statement}
 use Rattle.station.proofs.calls.wuthracomb_deliver.Tie as tie
 
-abbrev start : tie.After-words-fit → tie.Start
-start f = f .before .before .before .before .before .before
+abbrev start : tie.Else1 → tie.Start
+start e = e .before .before .before .before .before .before .before
 
-abbrev mem : tie.Start → Lent
-mem s =
-    lent (now (s .args .cells)) (now (s .args .boxes)) (now (s .args .state)) (now (s .args .rows))
-    (now (s .args .log))
-
-fits : (e : tie.Else1) → wordsFit (now (start (e .before) .args .session)) ≡ true
+fits : (e : tie.Else1) → wordsFit (now (start e .args .session)) ≡ true
 fits e = passed (e .before .words-fit .ensures) (e .if1 .left)
 
 returns : tie.Need-returns
@@ -29,7 +23,7 @@ unfolding deliverFace deliverOrder
 returns c =
     let f = c .before .before in
     rw (c .wide .ensures)
-    (unfit-left _ _ _ (mem (start f)) _ (failed (f .words-fit .ensures) (c .before .if1 .taken)))
+    (unfit-left _ _ _ _ _ (failed (f .words-fit .ensures) (c .before .if1 .taken)))
 
 session-of-requires : tie.Need-session-of-requires
 session-of-requires c κs = fit _ (fits (c .before))
@@ -47,7 +41,7 @@ returns-2 c =
     let d = t .before .before .before .before .before .before in
     let o = d .before .before .before .before in
     let e = o .before .before in
-    fit-left _ _ _ (mem (start (e .before))) _ (fits e)
+    fit-left _ _ _ _ _ (fits e)
     (rw (o .session-of .ensures) at (d .deliver .ensures)) (t .told-delivery .ensures)
 
 pub wuthracomb-deliver-spec : {M : Type 1} → statement M

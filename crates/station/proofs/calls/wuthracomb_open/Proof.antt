@@ -1,21 +1,14 @@
 -- `wuthracomb_open` meets its contract.
 use mathlib.Core.Path.{sym, ap, _∙_}
-use denote.Ref.{now}
 use borrow.Author.Needs.{needs}
 use borrow.Author.Tests.{eq-eqb, ne-eqb}
 use Rattle.basis.proofs.Order.{passes, fails}
-use Rattle.session.specs.Lent.{Lent, lent}
 use Rattle.yard.proofs.Cases.{passed, failed}
 use Rattle.station.specs.Face.{openFace}
 use Rattle.station.specs.Left.{leavesRunning}
 use Rattle.station.proofs.Leaving.{open-left}
 use Rattle.station.proofs.calls.wuthracomb_open.Statement.{statement}
 use Rattle.station.proofs.calls.wuthracomb_open.Tie as tie
-
-abbrev mem : tie.Start → Lent
-mem s =
-    lent (now (s .args .cells)) (now (s .args .boxes)) (now (s .args .state)) (now (s .args .rows))
-    (now (s .args .log))
 
 returns : tie.Need-returns
 unfolding openFace
@@ -40,8 +33,7 @@ returns-3 c =
     let t = c .before .before in
     let o = t .before .before .before .before .before .before in
     let e = o .before .before .before .before in
-    let s = e .before .before .before .before in
-    open-left _ _ (mem s) _ (eq-eqb _ _ (e .if1 .left)) (o .«open» .ensures) (t .told .ensures)
+    open-left _ _ _ _ (eq-eqb _ _ (e .if1 .left)) (o .«open» .ensures) (t .told .ensures)
 
 pub wuthracomb-open-spec : {M : Type 1} → statement M
 wuthracomb-open-spec =

@@ -7,13 +7,11 @@ use denote.Ref.{now}
 use lib.Dec.{eqb}
 use lib.ListN.{length}
 use borrow.Author.Needs.{needs}
-use Rattle.basis.specs.Order.{answer}
 use Rattle.session.specs.Calls.{shownOrder}
-use Rattle.session.specs.Lent.{Lent, lent}
 use Rattle.shown.specs.Answer.{shownAnswer}
 use Rattle.yard.proofs.Cases.{passed, failed}
 use Rattle.station.specs.Face.{shownFace}
-use Rattle.station.specs.Words.{sessionOf, wordsFit}
+use Rattle.station.specs.Words.{wordsFit}
 use Rattle.station.proofs.Sessions.{fit}
 use Rattle.station.proofs.Showing.{asked-long, asked-fits}
 use Rattle.station.proofs.Showing.{shows-unasked, shows-refused, shows-given}
@@ -24,11 +22,6 @@ use Rattle.station.proofs.show.wuthracomb_shown.Tie as tie
 abbrev start : tie.Else1 → tie.Start
 start e = e .before .before .before .before .before .before
 
-abbrev mem : tie.Start → Lent
-mem s =
-    lent (now (s .args .cells)) (now (s .args .boxes)) (now (s .args .state)) (now (s .args .rows))
-    (now (s .args .log))
-
 asked : (e : tie.Else1)
     → (eqb (length (now (start e .args .out))) 2 && wordsFit (now (start e .args .session))) ≡ true
 asked e = passed (e .before .may-show .ensures) (e .if1 .left)
@@ -36,17 +29,12 @@ asked e = passed (e .before .may-show .ensures) (e .if1 .left)
 long : (e : tie.Else1) → length (now (start e .args .out)) ≡ 2
 long e = asked-long _ (now (start e .args .out)) (now (start e .args .session)) (asked e)
 
--- The answer is of the session in the words.
-told : (d : tie.After-shown)
-    → let s = start (d .before .before) in
-    shownAnswer (d .shown .result) ≡ answer (shownOrder (sessionOf (now (s .args .session))) (mem s) (s .args .carrier))
-told d = rw (← d .before .session-of .ensures) (d .shown .ensures)
-
 returns : tie.Need-returns
 unfolding shownFace shownOrder
 returns c =
     rw (c .wide .ensures)
-    (shows-unasked _ _ _ _ _ _ (failed (c .before .before .may-show .ensures) (c .before .if1 .taken)))
+    (shows-unasked _ _ _ _ _ _
+    (failed (c .before .before .may-show .ensures) (c .before .if1 .taken)))
 
 session-of-requires : tie.Need-session-of-requires
 session-of-requires c κs = fit _ (asked-fits 2 (now (start c .args .out)) _ (asked c))
@@ -58,7 +46,8 @@ returns-2 c =
     let d = n .before .before in
     rw (c .wide2 .ensures)
     (shows-refused _ _ _ _ _ (asked (d .before .before))
-    (sym (told d) ∙ ap shownAnswer (n .number .given .1)))
+    (sym (rw (d .before .session-of .ensures) at (d .shown .ensures))
+    ∙ ap shownAnswer (n .number .given .1)))
 
 returns-3 : tie.Need-returns-3
 unfolding shownFace
@@ -67,7 +56,9 @@ returns-3 c =
     let d = n .before .before in
     let e = d .before .before in
     let place = n .place .given .0 .0 in
-    shows-given _ _ _ _ _ (asked e) (sym (told d) ∙ ap shownAnswer (n .place .given .1))
+    shows-given _ _ _ _ _ (asked e)
+    (sym (rw (d .before .session-of .ensures) at (d .shown .ensures))
+    ∙ ap shownAnswer (n .place .given .1))
     (stores (now (start e .args .out)) (place .x ∷ place .y ∷ []) (long e))
 
 pub wuthracomb-shown-spec : {M : Type 1} → statement M
