@@ -1,6 +1,6 @@
 // What every crate shares: the numbers of document 01's table and those that document 02 adds, the
-// limits that more than one crate keeps, and the lever held at a place. A limit of one crate alone is
-// an associated constant of that crate's own type.
+// limits that more than one crate keeps, and the lever held at a place. A limit of one crate alone
+// is an associated constant of that crate's own type.
 
 // 'Numbers given back', by name.
 pub struct Number {}

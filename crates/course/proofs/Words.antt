@@ -116,8 +116,8 @@ module _ {A : Type 0} {words : WordWorld A} (sized : Sized words) where
         many = length-set (made .rows) (t % rowCount) (made .state) ∙ fits .many;
       }
 
-  pub fits-steps : {made : Made (worldOfWords words)} (log : List Record) (t k : ℕ) → Fits words made
-      → Fits words (steps log t k made)
+  pub fits-steps : {made : Made (worldOfWords words)} (log : List Record) (t k : ℕ)
+      → Fits words made → Fits words (steps log t k made)
   unfolding steps
   fits-steps log t zero fits = fits
   fits-steps log t (suc k) fits = fits-step log (t + k) (fits-steps log t k fits)

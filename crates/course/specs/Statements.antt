@@ -185,8 +185,8 @@ pub record OnEveryWorld : Type 1 where
   -- Of words: what a session as in demand 3 has made fits; where it fits, the rows lie so.
   pub fits : {A : Type 0} (words : WordWorld A) → Lawful (worldOfWords words) → Sized words
       → (s : Session (worldOfWords words)) → Reached s → Fits words (s .made)
-  pub flatRows : {A : Type 0} (words : WordWorld A) (made : Made (worldOfWords words)) → Fits words made
-      → FlatRows words made
+  pub flatRows : {A : Type 0} (words : WordWorld A) (made : Made (worldOfWords words))
+      → Fits words made → FlatRows words made
   -- 'Opening fills rows .. with zeros.'
   pub opened : {A : Type 0} (words : WordWorld A) (first : ℕ)
       → flatten (opening (worldOfWords words) first .made .rows)

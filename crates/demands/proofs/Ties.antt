@@ -102,8 +102,7 @@ module _ (world : World) (opens : Opens world) (s : Session (model world)) (k : 
         eq-eqb _ _ (opens .laid),
         eq-eqb _ _ (opens .room),
         eq-eqb _ _ (fits .state),
-        eq-eqb (length (flatten (s .made .rows))) (320 * world .yard .b)
-            (omega (arith, flat-length fits)),
+        eq-eqb _ _ (flat-length fits),
         eq-eqb _ _ (length-buffer (s .log) (k .few)),
         opens .cells,
         opens .sizes,

@@ -1,6 +1,9 @@
 // The practice yard with other words than the calls left: a session that no opening made.
 use super::practice::Practice;
 use clock::Clock;
+use fleet::Rows;
+use fleet::State;
+use record::Buffer;
 use session::Session;
 
 impl Practice {
@@ -28,7 +31,7 @@ impl Practice {
         self.with_session(Session { yard, clock, held })
     }
 
-    pub fn with_state(self, state: [i32; 5]) -> Practice {
+    pub fn with_state(self, state: [i32; State::WORDS]) -> Practice {
         let session = self.session;
         let rows = self.rows;
         let log = self.log;
@@ -46,8 +49,8 @@ impl Practice {
         let state = self.state;
         let mut rows = self.rows;
         let log = self.log;
-        if row < 64 {
-            rows[5 * row + 4] = lever;
+        if row < Rows::COUNT {
+            rows[State::WORDS * row + 4] = lever;
         }
         Practice {
             session,
@@ -63,7 +66,7 @@ impl Practice {
         let state = self.state;
         let rows = self.rows;
         let mut log = self.log;
-        log[16_383] = byte;
+        log[Buffer::SIZE - 1] = byte;
         Practice {
             session,
             state,

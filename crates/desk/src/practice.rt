@@ -2,6 +2,9 @@
 use super::answers;
 use super::say;
 use digest::Digest;
+use fleet::Rows;
+use fleet::State;
+use record::Buffer;
 use record::Record;
 use session::Delivered;
 use session::Replayed;
@@ -12,9 +15,9 @@ use yard::Yard;
 // The buffers go by value with the session: each call lends them, and gives back what it left.
 pub struct Practice {
     pub session: Session,
-    pub state: [i32; 5],
-    pub rows: [i32; 320],
-    pub log: [u8; 16_384],
+    pub state: [i32; State::WORDS],
+    pub rows: [i32; Rows::COUNT * State::WORDS],
+    pub log: [u8; Buffer::SIZE],
 }
 
 // What a reading leaves, and what it answers.
@@ -47,9 +50,9 @@ impl Practice {
 
     fn sevens() -> Practice {
         let session = answers::closed(Practice::YARD);
-        let state = [7i32; 5];
-        let rows = [7i32; 320];
-        let log = [7u8; 16_384];
+        let state = [7i32; State::WORDS];
+        let rows = [7i32; Rows::COUNT * State::WORDS];
+        let log = [7u8; Buffer::SIZE];
         Practice {
             session,
             state,
@@ -204,7 +207,7 @@ fn replay_front(steps: u32, log: &[u8], held: usize) {
 pub fn replay(steps: u32, log: &[u8]) {
     let cells = Practice::CELLS;
     let boxes = Practice::BOXES;
-    let mut state = [7i32; 5];
+    let mut state = [7i32; State::WORDS];
     let before = Digest::of_state(steps, &state).value;
     let answer = session::replay(Practice::YARD, steps, &cells, &boxes, &mut state, log);
     let after = Digest::of_state(steps, &state).value;

@@ -1,12 +1,13 @@
 // A carrier walks through the practice yard (document 01, 'The program') under a built-in log:
 // where it stands after so many steps, as the program writes it. The file `stdout` holds what the
-// model of second/ gives. Among the steps are document 01's examples E (step 0), J (step 8), H (step
-// 32) and I (step 33).
+// model of second/ gives. Among the steps are document 01's examples E (step 0), J (step 8),
+// H (step 32) and I (step 33).
 ghost use mathlib.Core.Path.{_≡_};
 ghost use Prim.Native.Nat.{_/_, _≤_};
 ghost use lib.ListN.{length};
-ghost use Rattle.fleet.specs.State.{worldOf};
+ghost use Rattle.fleet.specs.State.{carrierWords, worldOf};
 ghost use Rattle.fleet.specs.Fits.{LogFits, StateFits, WorldFits};
+use fleet::State;
 use fleet::load;
 use fleet::run;
 use fleet::start;
@@ -56,7 +57,7 @@ fn main() {
     let boxes: [i32; 4] = [0, 256, 256, 256];
     let stops: [u32; 15] = [1, 8, 9, 28, 29, 32, 33, 34, 46, 98, 104, 125, 155, 190, 300];
     let log = log();
-    let mut state = [0i32; 5];
+    let mut state = [0i32; State::WORDS];
     walk(&cells, &boxes, &log, &stops, &mut state);
 }
 
@@ -79,7 +80,9 @@ fn log() -> [u8; 200] {
 // From the start to the last of the stops.
 fn walk(cells: &[u8], boxes: &[i32], log: &[u8], stops: &[u32], state: &mut [i32])
     requires room { ⌜
-        (length (now cells) ≡ 12) × (length (now boxes) ≡ 4) × (length (now state) ≡ 5) ⌝ }
+        (length (now cells) ≡ 12)
+        × (length (now boxes) ≡ 4)
+        × (length (now state) ≡ carrierWords) ⌝ }
 {
     let yard = Yard { w: 4, h: 3, b: 1 };
     if !sizes_hold(yard, boxes) {
@@ -132,7 +135,7 @@ fn visit(yard: Yard, cells: &[u8], boxes: &[i32], log: &[u8], stops: &[u32], sta
 }
 
 fn show(steps: u32, state: &[i32])
-    requires room { ⌜ 5 ≤ length (now state) ⌝ }
+    requires room { ⌜ carrierWords ≤ length (now state) ⌝ }
 {
     let c = load(state, 0);
     let x = c.x;

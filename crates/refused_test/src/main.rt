@@ -4,6 +4,9 @@ use clock::Clock;
 use desk::Practice;
 use desk::answers;
 use desk::say;
+use fleet::Rows;
+use fleet::State;
+use record::Buffer;
 use session::Session;
 use yard::Yard;
 
@@ -84,36 +87,39 @@ fn lengths() {
     let k = celled(k, b"two cells of 2", b"\x02\x02");
     let k = boxed(k, b"three words of boxes", &[0, 256, 0]);
     k.digest();
-    four_state_words();
+    state_word_missing();
     row_word_missing();
     log_byte_missing();
 }
 
-fn four_state_words() {
-    let mut state = [7i32; 4];
-    let mut rows = [7i32; 320];
-    let mut log = [7u8; 16_384];
-    opened(b"4 state words", &mut state, &mut rows, &mut log);
+fn state_word_missing() {
+    let mut state = [7i32; State::WORDS - 1];
+    let mut rows = [7i32; Rows::COUNT * State::WORDS];
+    let mut log = [7u8; Buffer::SIZE];
+    say::named(b"open with", state.len() as u64);
+    opened(b" state words", &mut state, &mut rows, &mut log);
 }
 
 fn row_word_missing() {
-    let mut state = [7i32; 5];
-    let mut rows = [7i32; 319];
-    let mut log = [7u8; 16_384];
-    opened(b"319 row words", &mut state, &mut rows, &mut log);
+    let mut state = [7i32; State::WORDS];
+    let mut rows = [7i32; Rows::COUNT * State::WORDS - 1];
+    let mut log = [7u8; Buffer::SIZE];
+    say::named(b"open with", rows.len() as u64);
+    opened(b" row words", &mut state, &mut rows, &mut log);
 }
 
 fn log_byte_missing() {
-    let mut state = [7i32; 5];
-    let mut rows = [7i32; 320];
-    let mut log = [7u8; 16_383];
-    opened(b"16383 log bytes", &mut state, &mut rows, &mut log);
+    let mut state = [7i32; State::WORDS];
+    let mut rows = [7i32; Rows::COUNT * State::WORDS];
+    let mut log = [7u8; Buffer::SIZE - 1];
+    say::named(b"open with", log.len() as u64);
+    opened(b" log bytes", &mut state, &mut rows, &mut log);
 }
 
+// The end of the name, and the opening with these buffers.
 fn opened(name: &[u8], state: &mut [i32], rows: &mut [i32], log: &mut [u8]) {
     let cells = Practice::CELLS;
     let boxes = Practice::BOXES;
-    say::text(b"open with ");
     say::text(name);
     let answer = Session::open(Practice::YARD, 0, &cells, &boxes, state, rows, log);
     answers::say_running(answer);

@@ -11,7 +11,7 @@ ghost use Prim.Native.Nat.{_≤_};
 ghost use lib.ListN.{length, take};
 ghost use Rattle.basis.specs.Order.{answer};
 ghost use Rattle.rerun.specs.Rerun.{programOrder};
-ghost use Rattle.rerun.specs.Text.{programText};
+ghost use Rattle.rerun.specs.Text.{programText, textRoom};
 use input::Input;
 use input::read_input;
 use libc::STDERR_FILENO;
@@ -23,9 +23,9 @@ use text::lines;
 
 // What the program writes for an input, at the front of the text; and how long it is.
 fn program(input: &[u8], text: &mut [u8]) -> usize
-    requires room { ⌜ 160 ≤ length (now text) ⌝ }
+    requires room { ⌜ textRoom ≤ length (now text) ⌝ }
     ensures text { λ r. ⌜
-        (r ≤ 160)
+        (r ≤ textRoom)
         × (take r (now (text .exit)) ≡ programText (answer (programOrder (now (input .entry))))) ⌝ }
 {
     lines(rerun(input), text)

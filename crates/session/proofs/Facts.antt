@@ -34,7 +34,7 @@ unfolding room
 room-fits yard l =
     Iff·trans
     (says-three (lengths-fit yard (l .cells) (l .boxes) (l .state))
-    (says-eq (length (l .rows)) (320 * yard .b)) (says-eq (length (l .log)) bufferSize)) (
+    (says-eq _ _) (says-eq (length (l .log)) bufferSize)) (
       λ (w, r, b). record { lengths = w; rowWords = r; logBytes = b },
       λ f. (f .lengths, f .rowWords, f .logBytes),
     )

@@ -71,7 +71,8 @@ module _ (free : ℤ → ℤ → Bool) (carrier : Carrier) where
   of-good g = by-lever Iff·rfl .1 (g .here, g .u, g .v, g .lever)
 
 -- Part 1 leaves a lever 0 to 9.
-pub lever-holds : (held : HeldLever) (lever : ℤ) → LeverFits held → between (pos 0) lever (pos 9) ≡ true
+pub lever-holds : (held : HeldLever) (lever : ℤ) → LeverFits held
+    → between (pos 0) lever (pos 9) ≡ true
     → between (pos 0) (leverAfter held lever) (pos 9) ≡ true
 lever-holds Nothing lever h e = e
 lever-holds (Lever moved) lever h e = zero-to 9 moved h

@@ -1,5 +1,5 @@
--- `Load::moved` meets its contract: what the machine reads back is what was given, and every word in
--- between fits.
+-- `Load::moved` meets its contract: what the machine reads back is what was given, and every word
+-- in between fits.
 use borrow.Author.Needs.{needs}
 use mathlib.Core.Path.{_≡_}
 use native.Mathlib.Omega.{arith}
