@@ -1,7 +1,7 @@
 // Document 01, 'Going back': late records, repeats, orders, and the log when it is full.
+use record::Record;
 use test_desk::Desk;
 use test_desk::say;
-use record::Record;
 
 pub fn run() {
     window();
@@ -35,10 +35,7 @@ fn window() {
 
 fn held() {
     say::title(b"100 steps made, step 35 already held: the same lever is HELD, another 6");
-    let k = Desk::open(0)
-        .deliver(35, 0, 3)
-        .deliver(90, 0, 8)
-        .hundred();
+    let k = Desk::open(0).deliver(35, 0, 3).deliver(90, 0, 8).hundred();
     k.digest();
     k.deliver(35, 0, 3).deliver(35, 0, 4).digest();
 }
