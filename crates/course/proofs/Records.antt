@@ -9,7 +9,7 @@ use native.Mathlib.Omega.{arith}
 use lib.Dec.{ltb, eqb}
 use borrow.Author.Tests.{ltb-true, ltb-false, eq-eqb, eqb-true}
 use Rattle.record.specs.Log.{place, placeOf}
-use Rattle.record.specs.Held.{leverAt}
+use Rattle.record.specs.Buffer.{leverAt}
 use Rattle.record.specs.declared.bytes.Record.{Record}
 use Rattle.record.proofs.Climbs.{Climbs, done, more}
 use Rattle.record.proofs.Levers.{leverBy, lever-by, lever-low}
