@@ -16,15 +16,6 @@ unfolding linesOf
 lines-of (accepted end) = refl
 lines-of (refused number) = refl
 
-rerun-requires : tie.Need-rerun-requires
-rerun-requires c κs = search needs
-
-lines-requires : tie.Need-lines-requires
-lines-requires c κs = search needs
-
-same-length : tie.Need-same-length
-same-length c = search needs
-
 returns : tie.Need-returns
 returns c =
     let n = c .before .before in
@@ -36,4 +27,10 @@ returns c =
     )
 
 pub program-spec : {M : Type 1} → statement M
-program-spec = tie.close (tie.spec rerun-requires lines-requires same-length returns)
+program-spec =
+    tie.close
+    (tie.spec
+    (λ c κs. search needs)
+    (λ c κs. search needs)
+    (λ c. search needs)
+    returns)

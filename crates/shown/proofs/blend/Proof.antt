@@ -17,15 +17,6 @@ step-bits : ofBits binary64 4671226772094713856 ≡ whole (pos stepLength)
 unfolding ofInt ofBits
 step-bits = refl
 
-int-to-float-p : tie.Need-int-to-float-p
-int-to-float-p c = search needs
-
-int-to-float-c : tie.Need-int-to-float-c
-int-to-float-c c = search needs
-
-int-to-float-alpha : tie.Need-int-to-float-alpha
-int-to-float-alpha c = search needs
-
 -- The operations of the code, one by one, on words as the machine reads them back.
 operations : (p c : ℤ) (remainder : ℕ) → SFits w32 p → SFits w32 c
     → add binary64 (whole (toZ w32 (ofZ w32 p)))
@@ -42,4 +33,10 @@ returns c =
     (s .fits .present)
 
 pub blend-spec : {M : Type 1} → statement M
-blend-spec = tie.close (tie.spec int-to-float-p int-to-float-c int-to-float-alpha returns)
+blend-spec =
+    tie.close
+    (tie.spec
+    (λ c. search needs)
+    (λ c. search needs)
+    (λ c. search needs)
+    returns)

@@ -17,12 +17,6 @@ returns-2 c = sym (not-sound (λ s. omega arith))
 returns-3 : tie.Need-returns-3
 returns-3 c = sym (not-sound (λ s. omega arith))
 
-mul-counted : tie.Need-mul-counted
-mul-counted c = search needs
-
-add-counted : tie.Need-add-counted
-add-counted c = search needs
-
 returns-4 : tie.Need-returns-4
 returns-4 c = decides _ (λ e. omega (arith, eqb-true)) (λ e s. omega (arith, eqb-false))
 
@@ -31,4 +25,12 @@ returns-5 c = decides _ (λ e. omega (arith, leb-true)) (λ e s. omega arith)
 
 pub is-sound-spec : {M : Type 1} → statement M
 is-sound-spec =
-    tie.close (tie.spec returns returns-2 returns-3 mul-counted add-counted returns-4 returns-5)
+    tie.close
+    (tie.spec
+    returns
+    returns-2
+    returns-3
+    (λ c. search needs)
+    (λ c. search needs)
+    returns-4
+    returns-5)

@@ -20,12 +20,9 @@ cast-value c = omega (arith, small c)
 mul-value : tie.Need-mul-value
 mul-value c = omega (arith, small c)
 
-cast-value-2 : tie.Need-cast-value-2
-cast-value-2 c = search needs
-
 returns : tie.Need-returns
 unfolding withByte
 returns c = refl
 
 pub byte-spec : {M : Type 1} → statement M
-byte-spec = tie.close (tie.spec cast-value mul-value cast-value-2 returns)
+byte-spec = tie.close (tie.spec cast-value mul-value (λ c. search needs) returns)

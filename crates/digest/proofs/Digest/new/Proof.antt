@@ -3,8 +3,5 @@ use mathlib.Core.Path.{refl}
 use Rattle.digest.proofs.Digest.new.Statement.{statement}
 use Rattle.digest.proofs.Digest.new.Tie as tie
 
-returns : tie.Need-returns
-returns c = refl
-
 pub new-spec : {M : Type 1} → statement M
-new-spec = tie.close (tie.spec returns)
+new-spec = tie.close (tie.spec (λ c. refl))

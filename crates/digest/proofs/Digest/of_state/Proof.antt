@@ -5,19 +5,16 @@ use Rattle.digest.proofs.Fnv.{continued}
 use Rattle.digest.proofs.Digest.of_state.Statement.{statement}
 use Rattle.digest.proofs.Digest.of_state.Tie as tie
 
-new-requires : tie.Need-new-requires
-new-requires c κs = search needs
-
-word-requires : tie.Need-word-requires
-word-requires c κs = search needs
-
-words-requires : tie.Need-words-requires
-words-requires c κs = search needs
-
 returns : tie.Need-returns
 returns c =
     rw (c .words .ensures, c .before .word .ensures, c .before .before .new .ensures)
     (sym (continued _ _ _))
 
 pub of-state-spec : {M : Type 1} → statement M
-of-state-spec = tie.close (tie.spec new-requires word-requires words-requires returns)
+of-state-spec =
+    tie.close
+    (tie.spec
+    (λ c κs. search needs)
+    (λ c κs. search needs)
+    (λ c κs. search needs)
+    returns)

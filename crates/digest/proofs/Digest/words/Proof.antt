@@ -17,27 +17,9 @@ Inv-loop words digest₀ i₀ digest i =
 abbrev μ-loop : tie.MeasureT-loop
 μ-loop words digest₀ i₀ digest i = length words - i
 
-loop-holds : tie.Need-loop-holds Inv-loop μ-loop
-loop-holds c = refl
-
-mul-twos-complement : tie.Need-mul-twos-complement Inv-loop μ-loop
-mul-twos-complement c = search needs
-
 shared-slice-copy-out-twos-complement :
     tie.Need-shared-slice-copy-out-twos-complement Inv-loop μ-loop
 shared-slice-copy-out-twos-complement c = search needs
-
-twos-complement-requires : tie.Need-twos-complement-requires Inv-loop μ-loop
-twos-complement-requires c κs = search needs
-
-word-requires : tie.Need-word-requires Inv-loop μ-loop
-word-requires c κs = search needs
-
-add-i : tie.Need-add-i Inv-loop μ-loop
-add-i c = search needs
-
-loop-less : tie.Need-loop-less Inv-loop μ-loop
-loop-less c = search needs
 
 loop-again : tie.Need-loop-again Inv-loop μ-loop
 loop-again c =
@@ -59,12 +41,12 @@ words-spec =
     (tie.spec
     Inv-loop
     μ-loop
-    loop-holds
-    mul-twos-complement
+    (λ c. refl)
+    (λ c. search needs)
     shared-slice-copy-out-twos-complement
-    twos-complement-requires
-    word-requires
-    add-i
-    loop-less
+    (λ c κs. search needs)
+    (λ c κs. search needs)
+    (λ c. search needs)
+    (λ c. search needs)
     loop-again
     returns)

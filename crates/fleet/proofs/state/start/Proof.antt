@@ -20,27 +20,9 @@ Inv-loop boxes state₀ b i₀ state i =
 abbrev μ-loop : tie.MeasureT-loop
 μ-loop boxes state₀ b i₀ state i = b - i
 
-cast-b : tie.Need-cast-b Inv-loop μ-loop
-cast-b c = search needs
-
 loop-holds : tie.Need-loop-holds Inv-loop μ-loop
 unfolding startTo
 loop-holds c = (search needs, refl, refl)
-
-word-of-requires : tie.Need-word-of-requires Inv-loop μ-loop
-word-of-requires c κs = search needs
-
-word-of-requires-2 : tie.Need-word-of-requires-2 Inv-loop μ-loop
-word-of-requires-2 c κs = search needs
-
-store-requires : tie.Need-store-requires Inv-loop μ-loop
-store-requires c κs = search needs
-
-add-i : tie.Need-add-i Inv-loop μ-loop
-add-i c = search needs
-
-loop-less : tie.Need-loop-less Inv-loop μ-loop
-loop-less c = search needs
 
 loop-again : tie.Need-loop-again Inv-loop μ-loop
 loop-again c =
@@ -82,13 +64,13 @@ start-spec =
     (tie.spec
     Inv-loop
     μ-loop
-    cast-b
+    (λ c. search needs)
     loop-holds
-    word-of-requires
-    word-of-requires-2
-    store-requires
-    add-i
-    loop-less
+    (λ c κs. search needs)
+    (λ c κs. search needs)
+    (λ c κs. search needs)
+    (λ c. search needs)
+    (λ c. search needs)
     loop-again
     same-length
     returns)

@@ -29,17 +29,8 @@ tested : (c : tie.After-is-sound Inv-loop μ-loop)
 unfolding freeFor
 tested c = c .is-sound .ensures ∙ rw (c .before .before .at .ensures, c .before .load .ensures)
 
-cast-b : tie.Need-cast-b Inv-loop μ-loop
-cast-b c = search needs
-
 loop-holds : tie.Need-loop-holds Inv-loop μ-loop
 loop-holds c = (search needs, below-none _)
-
-at-requires : tie.Need-at-requires Inv-loop μ-loop
-at-requires c κs = search needs
-
-load-requires : tie.Need-load-requires Inv-loop μ-loop
-load-requires c κs = search needs
 
 is-sound-requires : tie.Need-is-sound-requires Inv-loop μ-loop
 is-sound-requires c κs =
@@ -54,16 +45,12 @@ returns : tie.Need-returns Inv-loop μ-loop
 unfolding soundState
 returns c = stops _ (search needs) (tested (c .before)) (c .if1 .taken)
 
-add-i : tie.Need-add-i Inv-loop μ-loop
-add-i c = search needs
-
-loop-less : tie.Need-loop-less Inv-loop μ-loop
-loop-less c = search needs
-
 loop-again : tie.Need-loop-again Inv-loop μ-loop
 loop-again c =
-    let t = c .before in
-    (search needs, goes-on _ (t .before .before .before .before .loop .inv .1) (tested t) (c .if1 .left))
+    let t = c .before in (
+      search needs,
+      goes-on _ (t .before .before .before .before .loop .inv .1) (tested t) (c .if1 .left),
+    )
 
 returns-2 : tie.Need-returns-2 Inv-loop μ-loop
 unfolding soundState
@@ -75,13 +62,13 @@ state-sound-spec =
     (tie.spec
     Inv-loop
     μ-loop
-    cast-b
+    (λ c. search needs)
     loop-holds
-    at-requires
-    load-requires
+    (λ c κs. search needs)
+    (λ c κs. search needs)
     is-sound-requires
     returns
-    add-i
-    loop-less
+    (λ c. search needs)
+    (λ c. search needs)
     loop-again
     returns-2)

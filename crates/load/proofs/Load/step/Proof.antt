@@ -66,7 +66,8 @@ offset d = place-fits _ _ (soft d) (range d)
 speed-is : (d : tie.After-struct-told2)
     → read
     (read (start d .args .self .v)
-    -ℤ read (shrZ (read (toZ w32 (start d .args .stiffness) *ℤ read (start d .args .self .x))) 1024))
+    -ℤ read
+    (shrZ (read (toZ w32 (start d .args .stiffness) *ℤ read (start d .args .self .x))) 1024))
     ≡ speedAfter (start d .args .stiffness) (start d .args .self)
 unfolding quotient speedAfter
 speed-is d =

@@ -8,39 +8,6 @@ use borrow.Author.Needs.{needs}
 use Rattle.rerun.proofs.text.put_state.Statement.{statement}
 use Rattle.rerun.proofs.text.put_state.Tie as tie
 
-array-copy-out-put-word : tie.Need-array-copy-out-put-word
-array-copy-out-put-word c = search needs
-
-put-word-requires : tie.Need-put-word-requires
-put-word-requires c κs = search needs
-
-array-copy-out-put-word-2 : tie.Need-array-copy-out-put-word-2
-array-copy-out-put-word-2 c = search needs
-
-put-word-requires-2 : tie.Need-put-word-requires-2
-put-word-requires-2 c κs = search needs
-
-array-copy-out-put-word-3 : tie.Need-array-copy-out-put-word-3
-array-copy-out-put-word-3 c = search needs
-
-put-word-requires-3 : tie.Need-put-word-requires-3
-put-word-requires-3 c κs = search needs
-
-array-copy-out-put-word-4 : tie.Need-array-copy-out-put-word-4
-array-copy-out-put-word-4 c = search needs
-
-put-word-requires-4 : tie.Need-put-word-requires-4
-put-word-requires-4 c κs = search needs
-
-array-copy-out-put-word-5 : tie.Need-array-copy-out-put-word-5
-array-copy-out-put-word-5 c = search needs
-
-put-word-requires-5 : tie.Need-put-word-requires-5
-put-word-requires-5 c κs = search needs
-
-same-length : tie.Need-same-length
-same-length c = search needs
-
 returns : tie.Need-returns
 unfolding wordsText
 returns c =
@@ -76,15 +43,15 @@ pub put-state-spec : {M : Type 1} → statement M
 put-state-spec =
     tie.close
     (tie.spec
-    array-copy-out-put-word
-    put-word-requires
-    array-copy-out-put-word-2
-    put-word-requires-2
-    array-copy-out-put-word-3
-    put-word-requires-3
-    array-copy-out-put-word-4
-    put-word-requires-4
-    array-copy-out-put-word-5
-    put-word-requires-5
-    same-length
+    (λ c. search needs)
+    (λ c κs. search needs)
+    (λ c. search needs)
+    (λ c κs. search needs)
+    (λ c. search needs)
+    (λ c κs. search needs)
+    (λ c. search needs)
+    (λ c κs. search needs)
+    (λ c. search needs)
+    (λ c κs. search needs)
+    (λ c. search needs)
     returns)

@@ -5,32 +5,11 @@ use borrow.Author.Needs.{needs}
 use Rattle.rope.proofs.Force.holds.Statement.{statement}
 use Rattle.rope.proofs.Force.holds.Tie as tie
 
-enum-known-self : tie.Need-enum-known-self
-enum-known-self c = search needs
-
-is-finite-requires : tie.Need-is-finite-requires
-is-finite-requires c κs = search needs
-
-enum-known-self-2 : tie.Need-enum-known-self-2
-enum-known-self-2 c = search needs
-
-is-finite-requires-2 : tie.Need-is-finite-requires-2
-is-finite-requires-2 c κs = search needs
-
 returns : tie.Need-returns
 unfolding finiteForce
 returns c =
     let f = c .before in
     rw (f .before .before .self2 .given .1, failed (f .is-finite2 .ensures) (c .if1 .taken))
-
-is-finite-requires-3 : tie.Need-is-finite-requires-3
-is-finite-requires-3 c κs = search needs
-
-enum-known-self-3 : tie.Need-enum-known-self-3
-enum-known-self-3 c = search needs
-
-is-finite-requires-4 : tie.Need-is-finite-requires-4
-is-finite-requires-4 c κs = search needs
 
 returns-2 : tie.Need-returns-2
 unfolding finiteForce
@@ -52,14 +31,14 @@ pub holds-spec : {M : Type 1} → statement M
 holds-spec =
     tie.close
     (tie.spec
-    enum-known-self
-    is-finite-requires
-    enum-known-self-2
-    is-finite-requires-2
+    (λ c. search needs)
+    (λ c κs. search needs)
+    (λ c. search needs)
+    (λ c κs. search needs)
     returns
-    is-finite-requires-3
-    enum-known-self-3
-    is-finite-requires-4
+    (λ c κs. search needs)
+    (λ c. search needs)
+    (λ c κs. search needs)
     returns-2
     returns-3
     returns-4)

@@ -4,15 +4,6 @@ use borrow.Author.Needs.{needs}
 use Rattle.rope.proofs.Force.on.Statement.{statement}
 use Rattle.rope.proofs.Force.on.Tie as tie
 
-enum-known-self : tie.Need-enum-known-self
-enum-known-self c = search needs
-
-enum-known-self-2 : tie.Need-enum-known-self-2
-enum-known-self-2 c = search needs
-
-enum-known-self-3 : tie.Need-enum-known-self-3
-enum-known-self-3 c = search needs
-
 returns : tie.Need-returns
 unfolding forceOn
 returns c = rw (c .before .self .given .1)
@@ -28,4 +19,10 @@ returns-3 c = rw (c .before .self3 .given .1)
 pub on-spec : {M : Type 1} → statement M
 on-spec =
     tie.close
-    (tie.spec enum-known-self enum-known-self-2 enum-known-self-3 returns returns-2 returns-3)
+    (tie.spec
+    (λ c. search needs)
+    (λ c. search needs)
+    (λ c. search needs)
+    returns
+    returns-2
+    returns-3)

@@ -5,15 +5,9 @@ use borrow.Author.Needs.{needs}
 use Rattle.rope.proofs.Point.holds.Statement.{statement}
 use Rattle.rope.proofs.Point.holds.Tie as tie
 
-is-finite-requires : tie.Need-is-finite-requires
-is-finite-requires c κs = search needs
-
 returns : tie.Need-returns
 unfolding finitePoint
 returns c = rw (failed (c .before .is-finite .ensures) (c .if1 .taken))
-
-is-finite-requires-2 : tie.Need-is-finite-requires-2
-is-finite-requires-2 c κs = search needs
 
 returns-2 : tie.Need-returns-2
 unfolding finitePoint
@@ -22,4 +16,4 @@ returns-2 c =
     rw (passed (e .before .is-finite .ensures) (e .if1 .left)) (c .is-finite2 .ensures)
 
 pub holds-spec : {M : Type 1} → statement M
-holds-spec = tie.close (tie.spec is-finite-requires returns is-finite-requires-2 returns-2)
+holds-spec = tie.close (tie.spec (λ c κs. search needs) returns (λ c κs. search needs) returns-2)

@@ -66,9 +66,6 @@ result m = m .moved .ensures ∙ ap (movedBy _) (sum-is (m .before))
 returns : tie.Need-returns Inv-loop μ-loop
 returns c = sym (too-many _ _ _ (c .if1 .taken))
 
-holds-requires : tie.Need-holds-requires Inv-loop μ-loop
-holds-requires c κs = search needs
-
 returns-2 : tie.Need-returns-2 Inv-loop μ-loop
 returns-2 c =
     sym
@@ -77,15 +74,6 @@ returns-2 c =
 
 loop-holds : tie.Need-loop-holds Inv-loop μ-loop
 loop-holds c = (search needs, refl, rw zero-bits)
-
-mul-force : tie.Need-mul-force Inv-loop μ-loop
-mul-force c = search needs
-
-array-copy-out-force : tie.Need-array-copy-out-force Inv-loop μ-loop
-array-copy-out-force c = search needs
-
-holds-requires-2 : tie.Need-holds-requires-2 Inv-loop μ-loop
-holds-requires-2 c κs = search needs
 
 returns-3 : tie.Need-returns-3 Inv-loop μ-loop
 returns-3 c =
@@ -97,15 +85,6 @@ returns-3 c =
     (p .loop .inv .1
     ∙ next-fails (a .t2) (a .count) (p .loop .i) (search needs) (search needs)
     (failed (c .before .holds2 .ensures) (c .if3 .taken))))
-
-on-requires : tie.Need-on-requires Inv-loop μ-loop
-on-requires c κs = search needs
-
-add-i : tie.Need-add-i Inv-loop μ-loop
-add-i c = search needs
-
-loop-less : tie.Need-loop-less Inv-loop μ-loop
-loop-less c = search needs
 
 loop-again : tie.Need-loop-again Inv-loop μ-loop
 loop-again c =
@@ -121,12 +100,6 @@ loop-again c =
           ∙ sum-next (a .t2) (a .count) (p .loop .i) (search needs) (a .self) (p .loop .sum)
           (search needs)),
     )
-
-moved-requires : tie.Need-moved-requires Inv-loop μ-loop
-moved-requires c κs = search needs
-
-holds-requires-3 : tie.Need-holds-requires-3 Inv-loop μ-loop
-holds-requires-3 c κs = search needs
 
 returns-4 : tie.Need-returns-4 Inv-loop μ-loop
 returns-4 c =
@@ -152,18 +125,18 @@ step-spec =
     Inv-loop
     μ-loop
     returns
-    holds-requires
+    (λ c κs. search needs)
     returns-2
     loop-holds
-    mul-force
-    array-copy-out-force
-    holds-requires-2
+    (λ c. search needs)
+    (λ c. search needs)
+    (λ c κs. search needs)
     returns-3
-    on-requires
-    add-i
-    loop-less
+    (λ c κs. search needs)
+    (λ c. search needs)
+    (λ c. search needs)
     loop-again
-    moved-requires
-    holds-requires-3
+    (λ c κs. search needs)
+    (λ c κs. search needs)
     returns-4
     returns-5)

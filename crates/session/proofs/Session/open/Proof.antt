@@ -43,19 +43,10 @@ passes : (e : tie.After-enum-told)
     Passes yard (room yard l) (l .cells) (l .boxes)
 passes e = passes-say _ _ _ _ (accepts e)
 
-has-room-requires : tie.Need-has-room-requires
-has-room-requires c κs = search needs
-
 check-world-requires : tie.Need-check-world-requires
 check-world-requires c κs = λ e.
     let long = room-says _ _ (sym (c .has-room .ensures) ∙ e) in
     (long .world .cells, long .world .boxes)
-
-enum-known-number : tie.Need-enum-known-number
-enum-known-number c = search needs
-
-enum-told : tie.Need-enum-told
-enum-told c = search needs
 
 start-requires : tie.Need-start-requires
 start-requires c κs =
@@ -63,39 +54,12 @@ start-requires c κs =
     let long = room-says _ _ (passes e .long) in
     (boxes-fit _ (passes e .ranges) _ (long .world .boxes), long .world .state)
 
-clear-rows-requires : tie.Need-clear-rows-requires
-clear-rows-requires c κs = search needs
-
-clear-requires : tie.Need-clear-requires
-clear-requires c κs = search needs
-
-new-requires : tie.Need-new-requires
-new-requires c κs = search needs
-
-same-length : tie.Need-same-length
-same-length c = search needs
-
-same-length-2 : tie.Need-same-length-2
-same-length-2 c = search needs
-
-same-length-3 : tie.Need-same-length-3
-same-length-3 c = search needs
-
 returns : tie.Need-returns
 returns c =
     let w = c .before .before .before in
     sym
     (ap (leaves _)
     (open-refuses _ _ (mem (w .before)) (told w ∙ ap checkedOf (c .before .number .given .1))))
-
-same-length-4 : tie.Need-same-length-4
-same-length-4 c = search needs
-
-same-length-5 : tie.Need-same-length-5
-same-length-5 c = search needs
-
-same-length-6 : tie.Need-same-length-6
-same-length-6 c = search needs
 
 returns-2 : tie.Need-returns-2
 returns-2 c =
@@ -118,19 +82,19 @@ pub open-spec : {M : Type 1} → statement M
 open-spec =
     tie.close
     (tie.spec
-    has-room-requires
+    (λ c κs. search needs)
     check-world-requires
-    enum-known-number
-    enum-told
+    (λ c. search needs)
+    (λ c. search needs)
     start-requires
-    clear-rows-requires
-    clear-requires
-    new-requires
-    same-length
-    same-length-2
-    same-length-3
+    (λ c κs. search needs)
+    (λ c κs. search needs)
+    (λ c κs. search needs)
+    (λ c. search needs)
+    (λ c. search needs)
+    (λ c. search needs)
     returns
-    same-length-4
-    same-length-5
-    same-length-6
+    (λ c. search needs)
+    (λ c. search needs)
+    (λ c. search needs)
     returns-2)

@@ -44,27 +44,12 @@ fits n =
     due-fits (start e .args .self) (mem (start e)) (start e .args .reading) (ok e) (given n)
     (gave n)
 
-is-sound-requires : tie.Need-is-sound-requires
-is-sound-requires c κs = search needs
-
-same-length : tie.Need-same-length
-same-length c = search needs
-
-same-length-2 : tie.Need-same-length-2
-same-length-2 c = search needs
-
 returns : tie.Need-returns
 unfolding readingOrder
 returns c = sym (ap (leaves _) (fails _ _ (failed (c .before .is-sound .ensures) (c .if1 .taken))))
 
 tick-requires : tie.Need-tick-requires
 tick-requires c κs = good _ (mem (start c)) (ok c) .clock
-
-enum-known-number : tie.Need-enum-known-number
-enum-known-number c = search needs
-
-enum-known-next : tie.Need-enum-known-next
-enum-known-next c = search needs
 
 cast-from : tie.Need-cast-from
 cast-from c = omega (arith, fits (c .before .before))
@@ -89,12 +74,6 @@ run-saving-requires c κs =
       ),
     )
 
-same-length-3 : tie.Need-same-length-3
-same-length-3 c = search needs
-
-same-length-4 : tie.Need-same-length-4
-same-length-4 c = search needs
-
 returns-2 : tie.Need-returns-2
 returns-2 c =
     let r = c .before .before .before in
@@ -103,12 +82,6 @@ returns-2 c =
     (ap (leaves _)
     (clock-refuses (s .args .self) (mem s) (s .args .reading) (ok (r .before)) _
     (sym (r .tick .ensures) ∙ ap clockAnswer (c .before .number .given .1))))
-
-same-length-5 : tie.Need-same-length-5
-same-length-5 c = search needs
-
-same-length-6 : tie.Need-same-length-6
-same-length-6 c = search needs
 
 returns-3 : tie.Need-returns-3
 returns-3 c =
@@ -126,20 +99,20 @@ pub reading-spec : {M : Type 1} → statement M
 reading-spec =
     tie.close
     (tie.spec
-    is-sound-requires
-    same-length
-    same-length-2
+    (λ c κs. search needs)
+    (λ c. search needs)
+    (λ c. search needs)
     returns
     tick-requires
-    enum-known-number
-    enum-known-next
+    (λ c. search needs)
+    (λ c. search needs)
     cast-from
     cast-run-saving
     add-run-saving
     run-saving-requires
-    same-length-3
-    same-length-4
+    (λ c. search needs)
+    (λ c. search needs)
     returns-2
-    same-length-5
-    same-length-6
+    (λ c. search needs)
+    (λ c. search needs)
     returns-3)

@@ -5,9 +5,6 @@ use Rattle.yard.proofs.Signed.{got}
 use Rattle.session.proofs.show.between.Statement.{statement}
 use Rattle.session.proofs.show.between.Tie as tie
 
-shown-requires : tie.Need-shown-requires
-shown-requires c κs = search needs
-
 returns : tie.Need-returns
 returns c =
     let a = c .before .before .before .before .before .args in
@@ -20,4 +17,4 @@ returns c =
     )
 
 pub between-spec : {M : Type 1} → statement M
-between-spec = tie.close (tie.spec shown-requires returns)
+between-spec = tie.close (tie.spec (λ c κs. search needs) returns)

@@ -5,17 +5,11 @@ use Rattle.session.proofs.Showing.{digest-unsound, steps-fit, digest-gi
 use Rattle.session.proofs.show.digest.Statement.{statement}
 use Rattle.session.proofs.show.digest.Tie as tie
 
-is-sound-requires : tie.Need-is-sound-requires
-is-sound-requires c κs = search needs
-
 returns : tie.Need-returns
 returns c = digest-unsound _ _ (failed (c .before .is-sound .ensures) (c .if1 .taken))
 
 cast-of-state : tie.Need-cast-of-state
 cast-of-state c = steps-fit _ _ (passed (c .before .is-sound .ensures) (c .if1 .left))
-
-of-state-requires : tie.Need-of-state-requires
-of-state-requires c κs = search needs
 
 returns-2 : tie.Need-returns-2
 returns-2 c =
@@ -24,4 +18,10 @@ returns-2 c =
 
 pub digest-spec : {M : Type 1} → statement M
 digest-spec =
-    tie.close (tie.spec is-sound-requires returns cast-of-state of-state-requires returns-2)
+    tie.close
+    (tie.spec
+    (λ c κs. search needs)
+    returns
+    cast-of-state
+    (λ c κs. search needs)
+    returns-2)

@@ -28,9 +28,6 @@ module _ (c : tie.Else1) where
   ok : sound session mem ≡ true
   ok = passed (c .before .is-sound .ensures) (c .if1 .left)
 
-is-sound-requires : tie.Need-is-sound-requires
-is-sound-requires c κs = search needs
-
 returns : tie.Need-returns
 returns c = shown-unsound _ _ _ (failed (c .before .is-sound .ensures) (c .if1 .taken))
 
@@ -48,18 +45,12 @@ load-requires c κs =
     let t = c .before .before in
     in-state _ _ (ok (t .before .before)) _ (t .if2 .left)
 
-between-requires : tie.Need-between-requires
-between-requires c κs = search needs
-
 returns-3 : tie.Need-returns-3
 returns-3 c =
     let d = c .before .before in
     let t = d .before .before .before in
     first-shown _ _ (ok (t .before .before)) _ (t .if2 .left) (c .before .if3 .taken) _ _
     (d .load .ensures) (c .between .ensures)
-
-sub-row-sound : tie.Need-sub-row-sound
-sub-row-sound c = search needs
 
 row-sound-requires : tie.Need-row-sound-requires
 row-sound-requires c κs =
@@ -74,17 +65,11 @@ returns-4 c =
     row-fault _ _ (ok (t .before .before)) _ (t .if2 .left) (e .if3 .left)
     (failed (c .before .row-sound .ensures) (c .if4 .taken))
 
-sub-load-row : tie.Need-sub-load-row
-sub-load-row c = search needs
-
 load-row-requires : tie.Need-load-row-requires
 load-row-requires c κs =
     let t = c .before .before .before .before .before .before in
     let g = good _ _ (ok (t .before .before)) in
     (carriers-most _ (g .ranges), (t .if2 .left, rows-fit _ _ g))
-
-between-requires-2 : tie.Need-between-requires-2
-between-requires-2 c κs = search needs
 
 returns-5 : tie.Need-returns-5
 returns-5 c =
@@ -101,18 +86,18 @@ pub shown-spec : {M : Type 1} → statement M
 shown-spec =
     tie.close
     (tie.spec
-    is-sound-requires
+    (λ c κs. search needs)
     returns
     returns-2
     cast-steps
     cast-remainder
     load-requires
-    between-requires
+    (λ c κs. search needs)
     returns-3
-    sub-row-sound
+    (λ c. search needs)
     row-sound-requires
     returns-4
-    sub-load-row
+    (λ c. search needs)
     load-row-requires
-    between-requires-2
+    (λ c κs. search needs)
     returns-5)

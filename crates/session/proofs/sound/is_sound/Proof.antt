@@ -10,20 +10,11 @@ use Rattle.yard.proofs.Cases.{passed, failed}
 use Rattle.session.proofs.sound.is_sound.Statement.{statement}
 use Rattle.session.proofs.sound.is_sound.Tie as tie
 
-ranges-hold-requires : tie.Need-ranges-hold-requires
-ranges-hold-requires c κs = search needs
-
 returns : tie.Need-returns
 returns c = sym (bad-ranges _ _ (failed (c .before .ranges-hold .ensures) (c .if1 .taken)))
 
-has-room-requires : tie.Need-has-room-requires
-has-room-requires c κs = search needs
-
 returns-2 : tie.Need-returns-2
 returns-2 c = sym (bad-room _ _ (failed (c .before .has-room .ensures) (c .if2 .taken)))
-
-cells-hold-requires : tie.Need-cells-hold-requires
-cells-hold-requires c κs = search needs
 
 returns-3 : tie.Need-returns-3
 returns-3 c = sym (bad-cells _ _ (failed (c .before .cells-hold .ensures) (c .if3 .taken)))
@@ -37,9 +28,6 @@ sizes-hold-requires c κs =
 
 returns-4 : tie.Need-returns-4
 returns-4 c = sym (bad-sizes _ _ (failed (c .before .sizes-hold .ensures) (c .if4 .taken)))
-
-is-sound-requires : tie.Need-is-sound-requires
-is-sound-requires c κs = search needs
 
 returns-5 : tie.Need-returns-5
 returns-5 c = sym (bad-clock _ _ (failed (c .before .is-sound .ensures) (c .if5 .taken)))
@@ -90,15 +78,15 @@ pub is-sound-spec : {M : Type 1} → statement M
 is-sound-spec =
     tie.close
     (tie.spec
-    ranges-hold-requires
+    (λ c κs. search needs)
     returns
-    has-room-requires
+    (λ c κs. search needs)
     returns-2
-    cells-hold-requires
+    (λ c κs. search needs)
     returns-3
     sizes-hold-requires
     returns-4
-    is-sound-requires
+    (λ c κs. search needs)
     returns-5
     records-sound-requires
     returns-6

@@ -7,20 +7,8 @@ use Rattle.yard.proofs.Cases.{passed, failed}
 use Rattle.session.proofs.worlds.has_room.Statement.{statement}
 use Rattle.session.proofs.worlds.has_room.Tie as tie
 
-cast-b : tie.Need-cast-b
-cast-b c = search needs
-
-world-room-requires : tie.Need-world-room-requires
-world-room-requires c κs = search needs
-
 returns : tie.Need-returns
 returns c = sym (world-wrong _ _ (failed (c .before .world-room .ensures) (c .if1 .taken)))
-
-mul-if2 : tie.Need-mul-if2
-mul-if2 c = search needs
-
-mul-if2-2 : tie.Need-mul-if2-2
-mul-if2-2 c = search needs
 
 returns-2 : tie.Need-returns-2
 returns-2 c =
@@ -36,4 +24,12 @@ returns-3 c =
 
 pub has-room-spec : {M : Type 1} → statement M
 has-room-spec =
-    tie.close (tie.spec cast-b world-room-requires returns mul-if2 mul-if2-2 returns-2 returns-3)
+    tie.close
+    (tie.spec
+    (λ c. search needs)
+    (λ c κs. search needs)
+    returns
+    (λ c. search needs)
+    (λ c. search needs)
+    returns-2
+    returns-3)

@@ -5,29 +5,14 @@ use Rattle.session.proofs.Room.{area-fits, cells-wrong, boxes-wrong, st
 use Rattle.session.proofs.worlds.world_room.Statement.{statement}
 use Rattle.session.proofs.worlds.world_room.Tie as tie
 
-cast-w : tie.Need-cast-w
-cast-w c = search needs
-
-cast-h : tie.Need-cast-h
-cast-h c = search needs
-
-cast-b : tie.Need-cast-b
-cast-b c = search needs
-
 mul-if1 : tie.Need-mul-if1
 mul-if1 c = record { fits = area-fits _ _ (search needs) (search needs) }
 
 returns : tie.Need-returns
 returns c = sym (cells-wrong _ _ _ _ (c .if1 .taken))
 
-mul-if2 : tie.Need-mul-if2
-mul-if2 c = search needs
-
 returns-2 : tie.Need-returns-2
 returns-2 c = sym (boxes-wrong _ _ _ _ (search needs) (c .if2 .taken))
-
-mul-result : tie.Need-mul-result
-mul-result c = search needs
 
 returns-3 : tie.Need-returns-3
 returns-3 c = sym (state-decides _ _ _ _ (search needs) (search needs))
@@ -35,4 +20,13 @@ returns-3 c = sym (state-decides _ _ _ _ (search needs) (search needs))
 pub world-room-spec : {M : Type 1} → statement M
 world-room-spec =
     tie.close
-    (tie.spec cast-w cast-h cast-b mul-if1 returns mul-if2 returns-2 mul-result returns-3)
+    (tie.spec
+    (λ c. search needs)
+    (λ c. search needs)
+    (λ c. search needs)
+    mul-if1
+    returns
+    (λ c. search needs)
+    returns-2
+    (λ c. search needs)
+    returns-3)

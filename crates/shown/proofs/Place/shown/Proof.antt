@@ -14,12 +14,6 @@ use Rattle.shown.specs.declared.Place.{Place}
 use Rattle.shown.proofs.Place.shown.Statement.{statement}
 use Rattle.shown.proofs.Place.shown.Tie as tie
 
-blend-requires : tie.Need-blend-requires
-blend-requires c κs = search needs
-
-blend-requires-2 : tie.Need-blend-requires-2
-blend-requires-2 c κs = search needs
-
 -- A coordinate of words as the machine reads them back.
 read-back : (p c : ℤ) (remainder : ℕ) {x : Float} → SFits w32 p → SFits w32 c
     → x ≡ blendOf stepLength (toZ w32 (ofZ w32 p)) (toZ w32 (ofZ w32 c)) remainder
@@ -43,4 +37,4 @@ returns c =
     (read-back (a .py) (a .cy) (a .remainder) (s .fits .py) (s .fits .cy) (c .blend2 .ensures))
 
 pub shown-spec : {M : Type 1} → statement M
-shown-spec = tie.close (tie.spec blend-requires blend-requires-2 returns)
+shown-spec = tie.close (tie.spec (λ c κs. search needs) (λ c κs. search needs) returns)

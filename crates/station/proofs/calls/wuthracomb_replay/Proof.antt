@@ -18,30 +18,12 @@ given s =
     answer (replayOrder (yardOf (s .args .w) (s .args .h) (s .args .b)) (s .args .steps)
     (now (s .args .cells)) (now (s .args .boxes)) (now (s .args .state)) (now (s .args .log)))
 
-replay-requires : tie.Need-replay-requires
-replay-requires c κs = search needs
-
-enum-known-number : tie.Need-enum-known-number
-enum-known-number c = search needs
-
-wide-requires : tie.Need-wide-requires
-wide-requires c κs = search needs
-
-enum-told : tie.Need-enum-told
-enum-told c = search needs
-
-same-length : tie.Need-same-length
-same-length c = search needs
-
 returns : tie.Need-returns
 returns c =
     let n = c .before .before in
     let r = n .before .before .before in
     rw (c .wide .ensures)
     (replay-refused _ (given (start r)) (r .replay .ensures) (n .number .given .1))
-
-same-length-2 : tie.Need-same-length-2
-same-length-2 c = search needs
 
 returns-2 : tie.Need-returns-2
 returns-2 c =
@@ -52,11 +34,11 @@ pub wuthracomb-replay-spec : {M : Type 1} → statement M
 wuthracomb-replay-spec =
     tie.close
     (tie.spec
-    replay-requires
-    enum-known-number
-    wide-requires
-    enum-told
-    same-length
+    (λ c κs. search needs)
+    (λ c. search needs)
+    (λ c κs. search needs)
+    (λ c. search needs)
+    (λ c. search needs)
     returns
-    same-length-2
+    (λ c. search needs)
     returns-2)

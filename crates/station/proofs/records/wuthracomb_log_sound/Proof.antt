@@ -4,9 +4,6 @@ use borrow.Author.Needs.{needs}
 use Rattle.station.proofs.records.wuthracomb_log_sound.Statement.{statement}
 use Rattle.station.proofs.records.wuthracomb_log_sound.Tie as tie
 
-log-sound-requires : tie.Need-log-sound-requires
-log-sound-requires c κs = search needs
-
 returns : tie.Need-returns
 returns c = rw (failed (c .before .log-sound .ensures) (c .if1 .taken))
 
@@ -14,4 +11,4 @@ returns-2 : tie.Need-returns-2
 returns-2 c = rw (passed (c .before .log-sound .ensures) (c .if1 .left))
 
 pub wuthracomb-log-sound-spec : {M : Type 1} → statement M
-wuthracomb-log-sound-spec = tie.close (tie.spec log-sound-requires returns returns-2)
+wuthracomb-log-sound-spec = tie.close (tie.spec (λ c κs. search needs) returns returns-2)

@@ -25,42 +25,12 @@ accepts : (f : tie.After-r)
     → answer (readOrder mostCarriers (now (start f .args .bytes))) ≡ accepted (f .r .given .0 .0)
 accepts f = sym (f .before .before .read-record .ensures) ∙ ap readAnswer (f .r .given .1)
 
-read-record-requires : tie.Need-read-record-requires
-read-record-requires c κs = search needs
-
-enum-known-number : tie.Need-enum-known-number
-enum-known-number c = search needs
-
-wide-requires : tie.Need-wide-requires
-wide-requires c κs = search needs
-
-enum-known-r : tie.Need-enum-known-r
-enum-known-r c = search needs
-
-wide-requires-2 : tie.Need-wide-requires-2
-wide-requires-2 c κs = search needs
-
 returns : tie.Need-returns
 returns c =
     rw (c .wide2 .ensures)
     (sym
     (ap (fills _)
     (read-no-room _ _ (accepts (c .before .before .before)) (c .before .if1 .taken))))
-
-slice-write-out : tie.Need-slice-write-out
-slice-write-out c = search needs
-
-wide-requires-3 : tie.Need-wide-requires-3
-wide-requires-3 c κs = search needs
-
-slice-write-out-2 : tie.Need-slice-write-out-2
-slice-write-out-2 c = search needs
-
-wide-requires-4 : tie.Need-wide-requires-4
-wide-requires-4 c κs = search needs
-
-slice-write-out-3 : tie.Need-slice-write-out-3
-slice-write-out-3 c = simp length-set (omega arith)
 
 returns-2 : tie.Need-returns-2
 returns-2 c =
@@ -70,9 +40,6 @@ returns-2 c =
     (ap (fills _)
     (read-refused _ _
     (sym (n .before .before .read-record .ensures) ∙ ap readAnswer (n .number .given .1)))))
-
-same-length : tie.Need-same-length
-same-length c = search needs
 
 returns-3 : tie.Need-returns-3
 returns-3 c =
@@ -88,17 +55,17 @@ pub wuthracomb-read-record-spec : {M : Type 1} → statement M
 wuthracomb-read-record-spec =
     tie.close
     (tie.spec
-    read-record-requires
-    enum-known-number
-    wide-requires
-    enum-known-r
-    wide-requires-2
+    (λ c κs. search needs)
+    (λ c. search needs)
+    (λ c κs. search needs)
+    (λ c. search needs)
+    (λ c κs. search needs)
     returns
-    slice-write-out
-    wide-requires-3
-    slice-write-out-2
-    wide-requires-4
-    slice-write-out-3
+    (λ c. search needs)
+    (λ c κs. search needs)
+    (λ c. search needs)
+    (λ c κs. search needs)
+    (λ c. simp length-set (omega arith))
     returns-2
-    same-length
+    (λ c. search needs)
     returns-3)

@@ -12,25 +12,10 @@ use borrow.Author.Needs.{needs}
 use Rattle.station.proofs.records.wuthracomb_step_records.Statement.{statement}
 use Rattle.station.proofs.records.wuthracomb_step_records.Tie as tie
 
-wide-requires : tie.Need-wide-requires
-wide-requires c κs = search needs
-
 returns : tie.Need-returns
 unfolding stepRecordsFace
 returns c =
     rw (c .wide .ensures) (sym (ap (fills _) (fails _ _ (ne-eqb _ _ (c .before .if1 .taken)))))
-
-step-part-requires : tie.Need-step-part-requires
-step-part-requires c κs = search needs
-
-slice-write-out : tie.Need-slice-write-out
-slice-write-out c = search needs
-
-slice-write-out-2 : tie.Need-slice-write-out-2
-slice-write-out-2 c = search needs
-
-same-length : tie.Need-same-length
-same-length c = search needs
 
 returns-2 : tie.Need-returns-2
 unfolding stepRecordsFace
@@ -47,10 +32,10 @@ pub wuthracomb-step-records-spec : {M : Type 1} → statement M
 wuthracomb-step-records-spec =
     tie.close
     (tie.spec
-    wide-requires
+    (λ c κs. search needs)
     returns
-    step-part-requires
-    slice-write-out
-    slice-write-out-2
-    same-length
+    (λ c κs. search needs)
+    (λ c. search needs)
+    (λ c. search needs)
+    (λ c. search needs)
     returns-2)

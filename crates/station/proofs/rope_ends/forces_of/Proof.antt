@@ -23,48 +23,6 @@ abbrev μ-loop : tie.MeasureT-loop
 loop-holds : tie.Need-loop-holds Inv-loop μ-loop
 loop-holds c = (search needs, refl, refl)
 
-mul-force-of : tie.Need-mul-force-of Inv-loop μ-loop
-mul-force-of c = search needs
-
-shared-slice-read-force-of : tie.Need-shared-slice-read-force-of Inv-loop μ-loop
-shared-slice-read-force-of c = search needs
-
-mul-force-of-2 : tie.Need-mul-force-of-2 Inv-loop μ-loop
-mul-force-of-2 c = search needs
-
-mul-force-of-3 : tie.Need-mul-force-of-3 Inv-loop μ-loop
-mul-force-of-3 c = search needs
-
-shared-slice-read-force-of-2 : tie.Need-shared-slice-read-force-of-2 Inv-loop μ-loop
-shared-slice-read-force-of-2 c = search needs
-
-mul-force-of-4 : tie.Need-mul-force-of-4 Inv-loop μ-loop
-mul-force-of-4 c = search needs
-
-add-force-of : tie.Need-add-force-of Inv-loop μ-loop
-add-force-of c = search needs
-
-mul-force-of-5 : tie.Need-mul-force-of-5 Inv-loop μ-loop
-mul-force-of-5 c = search needs
-
-shared-slice-read-force-of-3 : tie.Need-shared-slice-read-force-of-3 Inv-loop μ-loop
-shared-slice-read-force-of-3 c = search needs
-
-force-of-requires : tie.Need-force-of-requires Inv-loop μ-loop
-force-of-requires c κs = search needs
-
-mul-forces : tie.Need-mul-forces Inv-loop μ-loop
-mul-forces c = search needs
-
-array-set-from-forces : tie.Need-array-set-from-forces Inv-loop μ-loop
-array-set-from-forces c = search needs
-
-add-i : tie.Need-add-i Inv-loop μ-loop
-add-i c = search needs
-
-loop-less : tie.Need-loop-less Inv-loop μ-loop
-loop-less c = search needs
-
 loop-again : tie.Need-loop-again Inv-loop μ-loop
 loop-again c =
     let p = c .before .before .before .before .before in
@@ -90,19 +48,19 @@ forces-of-spec =
     Inv-loop
     μ-loop
     loop-holds
-    mul-force-of
-    shared-slice-read-force-of
-    mul-force-of-2
-    mul-force-of-3
-    shared-slice-read-force-of-2
-    mul-force-of-4
-    add-force-of
-    mul-force-of-5
-    shared-slice-read-force-of-3
-    force-of-requires
-    mul-forces
-    array-set-from-forces
-    add-i
-    loop-less
+    (λ c. search needs)
+    (λ c. search needs)
+    (λ c. search needs)
+    (λ c. search needs)
+    (λ c. search needs)
+    (λ c. search needs)
+    (λ c. search needs)
+    (λ c. search needs)
+    (λ c. search needs)
+    (λ c κs. search needs)
+    (λ c. search needs)
+    (λ c. search needs)
+    (λ c. search needs)
+    (λ c. search needs)
     loop-again
     returns)

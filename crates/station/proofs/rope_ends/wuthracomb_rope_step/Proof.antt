@@ -50,12 +50,6 @@ told : (d : tie.After-step)
     (length (now (start (first (fourth d)) .args .kinds))))
 told d = d .step .ensures ∙ array-step _ _ _ _ (d .before .forces-of .ensures)
 
-two-each-requires : tie.Need-two-each-requires
-two-each-requires c κs = search needs
-
-wide-requires : tie.Need-wide-requires
-wide-requires c κs = search needs
-
 returns : tie.Need-returns
 returns c =
     let t = c .before in
@@ -64,17 +58,11 @@ returns c =
     (ap (fills _)
     (wrong-numbers _ _ _ (failed (t .before .two-each .ensures) (t .if1 .taken)))))
 
-wide-requires-2 : tie.Need-wide-requires-2
-wide-requires-2 c κs = search needs
-
 returns-2 : tie.Need-returns-2
 returns-2 c =
     let t = c .before in
     rw (c .wide2 .ensures)
     (sym (ap (fills _) (wrong-point _ _ _ (two (t .before)) (t .if2 .taken))))
-
-wide-requires-3 : tie.Need-wide-requires-3
-wide-requires-3 c κs = search needs
 
 returns-3 : tie.Need-returns-3
 returns-3 c =
@@ -83,12 +71,6 @@ returns-3 c =
     rw (c .wide3 .ensures)
     (sym
     (ap (fills _) (too-many-kinds _ _ _ (two (e .before)) (e .if2 .left) (t .if3 .taken))))
-
-kinds-hold-requires : tie.Need-kinds-hold-requires
-kinds-hold-requires c κs = search needs
-
-wide-requires-4 : tie.Need-wide-requires-4
-wide-requires-4 c κs = search needs
 
 returns-4 : tie.Need-returns-4
 returns-4 c =
@@ -100,31 +82,10 @@ returns-4 c =
     (wrong-kind _ _ _ (two (e .before)) (e .if2 .left)
     (failed (t .before .kinds-hold .ensures) (t .if4 .taken)))))
 
-slice-read-t12 : tie.Need-slice-read-t12
-slice-read-t12 c = search needs
-
-slice-read-t14 : tie.Need-slice-read-t14
-slice-read-t14 c = search needs
-
 forces-of-requires : tie.Need-forces-of-requires
 forces-of-requires c κs =
     let e = c .before .before in
     (e .before .before .if3 .left, eqb-true _ _ (two (first e)))
-
-step-requires : tie.Need-step-requires
-step-requires c κs = search needs
-
-enum-known-number : tie.Need-enum-known-number
-enum-known-number c = search needs
-
-wide-requires-5 : tie.Need-wide-requires-5
-wide-requires-5 c κs = search needs
-
-enum-known-next : tie.Need-enum-known-next
-enum-known-next c = search needs
-
-slice-write-point : tie.Need-slice-write-point
-slice-write-point c = search needs
 
 slice-write-point-2 : tie.Need-slice-write-point-2
 slice-write-point-2 c =
@@ -140,9 +101,6 @@ returns-5 c =
     (ap (fills _)
     (step-refused _ _ _ (two (first e)) (long e) (known e)
     (sym (told d) ∙ ap answerOf (n .number .given .1)))))
-
-same-length : tie.Need-same-length
-same-length c = search needs
 
 returns-6 : tie.Need-returns-6
 returns-6 c =
@@ -161,25 +119,25 @@ pub wuthracomb-rope-step-spec : {M : Type 1} → statement M
 wuthracomb-rope-step-spec =
     tie.close
     (tie.spec
-    two-each-requires
-    wide-requires
+    (λ c κs. search needs)
+    (λ c κs. search needs)
     returns
-    wide-requires-2
+    (λ c κs. search needs)
     returns-2
-    wide-requires-3
+    (λ c κs. search needs)
     returns-3
-    kinds-hold-requires
-    wide-requires-4
+    (λ c κs. search needs)
+    (λ c κs. search needs)
     returns-4
-    slice-read-t12
-    slice-read-t14
+    (λ c. search needs)
+    (λ c. search needs)
     forces-of-requires
-    step-requires
-    enum-known-number
-    wide-requires-5
-    enum-known-next
-    slice-write-point
+    (λ c κs. search needs)
+    (λ c. search needs)
+    (λ c κs. search needs)
+    (λ c. search needs)
+    (λ c. search needs)
     slice-write-point-2
     returns-5
-    same-length
+    (λ c. search needs)
     returns-6)

@@ -15,17 +15,11 @@ returns : tie.Need-returns
 unfolding wordsFit
 returns c = rw (ne-eqb _ _ (c .if1 .taken))
 
-shared-slice-read-if2 : tie.Need-shared-slice-read-if2
-shared-slice-read-if2 c = search needs
-
 returns-2 : tie.Need-returns-2
 unfolding wordsFit
 returns-2 c =
     let one = c .before .before in
     rw (eq-eqb _ _ (one .if1 .left), le-ltb (word (one .before) 0) _ (c .if2 .taken))
-
-shared-slice-read-if3 : tie.Need-shared-slice-read-if3
-shared-slice-read-if3 c = search needs
 
 returns-3 : tie.Need-returns-3
 unfolding wordsFit
@@ -37,9 +31,6 @@ returns-3 c =
       lt-ltb (word (one .before) 0) _ (two .if2 .left),
       le-ltb (word (one .before) 1) _ (c .if3 .taken),
     )
-
-shared-slice-read-result : tie.Need-shared-slice-read-result
-shared-slice-read-result c = search needs
 
 returns-4 : tie.Need-returns-4
 unfolding wordsFit
@@ -58,9 +49,9 @@ words-fit-spec =
     tie.close
     (tie.spec
     returns
-    shared-slice-read-if2
+    (λ c. search needs)
     returns-2
-    shared-slice-read-if3
+    (λ c. search needs)
     returns-3
-    shared-slice-read-result
+    (λ c. search needs)
     returns-4)

@@ -17,15 +17,11 @@ no-nan (fin s m k) e = tt
 float-to-bits-print-hex : tie.Need-float-to-bits-print-hex
 float-to-bits-print-hex c = no-nan _ (c .if1 .taken)
 
-print-hex-requires : tie.Need-print-hex-requires
-print-hex-requires c κs = search needs
-
-returns : tie.Need-returns
-returns c = search needs
-
-returns-2 : tie.Need-returns-2
-returns-2 c = search needs
-
 pub pattern-spec : {M : Type 1} → statement M
 pattern-spec =
-    tie.close (tie.spec float-to-bits-print-hex print-hex-requires returns returns-2)
+    tie.close
+    (tie.spec
+    float-to-bits-print-hex
+    (λ c κs. search needs)
+    (λ c. search needs)
+    (λ c. search needs))

@@ -44,15 +44,9 @@ lever-is c =
     let w = the (c .before .before .before .before .before .before .before) in
     test-is (pos 0) (w .lever) (pos 9) (search needs) (c .is-between3 .ensures)
 
-is-free-requires : tie.Need-is-free-requires
-is-free-requires c κs = search needs
-
 returns : tie.Need-returns
 unfolding soundCarrier
 returns c = rw (failed (free-is (c .before)) (c .if1 .taken))
-
-is-between-requires : tie.Need-is-between-requires
-is-between-requires c κs = search needs
 
 returns-2 : tie.Need-returns-2
 unfolding soundCarrier
@@ -62,9 +56,6 @@ returns-2 c =
       passed (free-is (first .before)) (first .if1 .left),
       failed (u-is (c .before)) (c .if2 .taken),
     )
-
-is-between-requires-2 : tie.Need-is-between-requires-2
-is-between-requires-2 c κs = search needs
 
 returns-3 : tie.Need-returns-3
 unfolding soundCarrier
@@ -76,12 +67,6 @@ returns-3 c =
       passed (u-is (second .before)) (second .if2 .left),
       failed (v-is (c .before)) (c .if3 .taken),
     )
-
-cast-is-between : tie.Need-cast-is-between
-cast-is-between c = search needs
-
-is-between-requires-3 : tie.Need-is-between-requires-3
-is-between-requires-3 c κs = search needs
 
 returns-4 : tie.Need-returns-4
 unfolding soundCarrier
@@ -100,12 +85,12 @@ pub is-sound-spec : {M : Type 1} → statement M
 is-sound-spec =
     tie.close
     (tie.spec
-    is-free-requires
+    (λ c κs. search needs)
     returns
-    is-between-requires
+    (λ c κs. search needs)
     returns-2
-    is-between-requires-2
+    (λ c κs. search needs)
     returns-3
-    cast-is-between
-    is-between-requires-3
+    (λ c. search needs)
+    (λ c κs. search needs)
     returns-4)

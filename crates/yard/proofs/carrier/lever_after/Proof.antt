@@ -5,15 +5,6 @@ use mir.Facts.{toZ-ofZ, toZ-pos}
 use Rattle.yard.proofs.carrier.lever_after.Statement.{statement}
 use Rattle.yard.proofs.carrier.lever_after.Tie as tie
 
-enum-told : tie.Need-enum-told
-enum-told c = search needs
-
-enum-known-held : tie.Need-enum-known-held
-enum-known-held c = search needs
-
-cast-result : tie.Need-cast-result
-cast-result c = search needs
-
 returns : tie.Need-returns
 returns c = rw (toZ-ofZ (c .before .before .fits .lever), c .enum-told .given .1)
 
@@ -21,4 +12,11 @@ returns-2 : tie.Need-returns-2
 returns-2 c = rw (c .before .held .given .1) (toZ-pos w32 (search needs))
 
 pub lever-after-spec : {M : Type 1} → statement M
-lever-after-spec = tie.close (tie.spec enum-told enum-known-held cast-result returns returns-2)
+lever-after-spec =
+    tie.close
+    (tie.spec
+    (λ c. search needs)
+    (λ c. search needs)
+    (λ c. search needs)
+    returns
+    returns-2)

@@ -111,12 +111,6 @@ along-y-is c =
     ∙ slides-alike _ Y (v-is (c .before .before .before .before)) (new-x-is (c .before))
     (got (w .y) (search needs))
 
-lever-after-requires : tie.Need-lever-after-requires
-lever-after-requires c κs = search needs
-
-magnitude-requires : tie.Need-magnitude-requires
-magnitude-requires c κs = search needs
-
 new-speed-requires : tie.Need-new-speed-requires
 new-speed-requires c κs =
     let s = entry (c .before .before) in
@@ -163,8 +157,8 @@ pub step-spec : {M : Type 1} → statement M
 step-spec =
     tie.close
     (tie.spec
-    lever-after-requires
-    magnitude-requires
+    (λ c κs. search needs)
+    (λ c κs. search needs)
     new-speed-requires
     new-speed-requires-2
     slide-requires

@@ -22,12 +22,6 @@ push-is c =
       pair .ensures,
     )
 
-cast-if1 : tie.Need-cast-if1
-cast-if1 c = search needs
-
-brake-speed-requires : tie.Need-brake-speed-requires
-brake-speed-requires c κs = search needs
-
 returns : tie.Need-returns
 unfolding newSpeed
 returns c =
@@ -37,12 +31,6 @@ returns c =
       toZ-ofZ (c .before .before .fits .old),
       eq-eqb _ 9 (c .before .if1 .taken),
     )
-
-push-of-requires : tie.Need-push-of-requires
-push-of-requires c κs = search needs
-
-pick-requires : tie.Need-pick-requires
-pick-requires c κs = search needs
 
 pushed-speed-requires : tie.Need-pushed-speed-requires
 pushed-speed-requires c κs =
@@ -65,10 +53,10 @@ pub new-speed-spec : {M : Type 1} → statement M
 new-speed-spec =
     tie.close
     (tie.spec
-    cast-if1
-    brake-speed-requires
+    (λ c. search needs)
+    (λ c κs. search needs)
     returns
-    push-of-requires
-    pick-requires
+    (λ c κs. search needs)
+    (λ c κs. search needs)
     pushed-speed-requires
     returns-2)

@@ -7,41 +7,14 @@ use Rattle.yard.proofs.Squares.{past-right, past-bottom, none-met, wall
 use Rattle.yard.proofs.place.free_at.Statement.{statement}
 use Rattle.yard.proofs.place.free_at.Tie as tie
 
-add-if1 : tie.Need-add-if1
-add-if1 c = search needs
-
-cast-if1 : tie.Need-cast-if1
-cast-if1 c = search needs
-
-mul-if1 : tie.Need-mul-if1
-mul-if1 c = search needs
-
 returns : tie.Need-returns
 returns c = sym (past-right _ _ _ _ _ (c .if1 .taken))
-
-add-if2 : tie.Need-add-if2
-add-if2 c = search needs
-
-cast-if2 : tie.Need-cast-if2
-cast-if2 c = search needs
-
-mul-if2 : tie.Need-mul-if2
-mul-if2 c = search needs
 
 returns-2 : tie.Need-returns-2
 returns-2 c = sym (past-bottom _ _ _ _ _ (c .if2 .taken))
 
-block-of-requires : tie.Need-block-of-requires
-block-of-requires c κs = search needs
-
 wall-in-requires : tie.Need-wall-in-requires
 wall-in-requires c κs = rw (c .block-of .ensures) (search needs)
-
-enum-told : tie.Need-enum-told
-enum-told c = search needs
-
-enum-told-2 : tie.Need-enum-told-2
-enum-told-2 c = search needs
 
 -- What the search answers, of the box's own block.
 finds : (c : tie.After-wall-in) →
@@ -68,17 +41,17 @@ pub free-at-spec : {M : Type 1} → statement M
 free-at-spec =
     tie.close
     (tie.spec
-    add-if1
-    cast-if1
-    mul-if1
+    (λ c. search needs)
+    (λ c. search needs)
+    (λ c. search needs)
     returns
-    add-if2
-    cast-if2
-    mul-if2
+    (λ c. search needs)
+    (λ c. search needs)
+    (λ c. search needs)
     returns-2
-    block-of-requires
+    (λ c κs. search needs)
     wall-in-requires
-    enum-told
-    enum-told-2
+    (λ c. search needs)
+    (λ c. search needs)
     returns-3
     returns-4)

@@ -19,12 +19,6 @@ returns-2 c =
     let s = c .before .before .before in
     sym (below-above _ _ _ (s .args .x) _ (rw (toZ-ofZ (s .fits .y)) at (c .if2 .taken)))
 
-magnitude-requires : tie.Need-magnitude-requires
-magnitude-requires c κs = search needs
-
-magnitude-requires-2 : tie.Need-magnitude-requires-2
-magnitude-requires-2 c κs = search needs
-
 -- Past both tests, the two magnitudes are the place.
 x-is : (c : tie.After-magnitude) → let s = c .before .before .before .before in
     c .magnitude .result ≡ natAbs (s .args .x)
@@ -57,4 +51,10 @@ returns-3 c =
 pub is-free-spec : {M : Type 1} → statement M
 is-free-spec =
     tie.close
-    (tie.spec returns returns-2 magnitude-requires magnitude-requires-2 free-at-requires returns-3)
+    (tie.spec
+    returns
+    returns-2
+    (λ c κs. search needs)
+    (λ c κs. search needs)
+    free-at-requires
+    returns-3)

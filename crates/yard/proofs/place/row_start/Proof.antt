@@ -6,9 +6,6 @@ use borrow.Author.Needs.{needs}
 use Rattle.yard.proofs.place.row_start.Statement.{statement}
 use Rattle.yard.proofs.place.row_start.Tie as tie
 
-cast-result : tie.Need-cast-result
-cast-result c = search needs
-
 mul-result : tie.Need-mul-result
 mul-result c =
     let a = c .before .args in
@@ -22,4 +19,4 @@ returns c =
     (search needs, omega (arith, mul-le-mul-right (a .yard .w) (c .before .pre .0)))
 
 pub row-start-spec : {M : Type 1} → statement M
-row-start-spec = tie.close (tie.spec cast-result mul-result returns)
+row-start-spec = tie.close (tie.spec (λ c. search needs) mul-result returns)

@@ -25,24 +25,6 @@ abbrev μ-loop : tie.MeasureT-loop
 loop-holds : tie.Need-loop-holds Inv-loop μ-loop
 loop-holds c = (search needs, search needs, λ column row h. absurd (omega arith))
 
-row-start-requires : tie.Need-row-start-requires Inv-loop μ-loop
-row-start-requires c κs = search needs
-
-add-first-wall : tie.Need-add-first-wall Inv-loop μ-loop
-add-first-wall c = search needs
-
-add-first-wall-2 : tie.Need-add-first-wall-2 Inv-loop μ-loop
-add-first-wall-2 c = search needs
-
-first-wall-requires : tie.Need-first-wall-requires Inv-loop μ-loop
-first-wall-requires c κs = search needs
-
-add-if1 : tie.Need-add-if1 Inv-loop μ-loop
-add-if1 c = search needs
-
-sub-t14 : tie.Need-sub-t14 Inv-loop μ-loop
-sub-t14 c = search needs
-
 -- In the row that was searched, no wall before what was found.
 clear : (c : tie.After-first-wall Inv-loop μ-loop) →
     let a = c .before .before .before .before .before .args in
@@ -69,12 +51,6 @@ returns c =
       columns = λ column h l. clear (c .before) column (h .left) (omega arith);
     }
 
-add-row : tie.Need-add-row Inv-loop μ-loop
-add-row c = search needs
-
-loop-less : tie.Need-loop-less Inv-loop μ-loop
-loop-less c = search needs
-
 loop-again : tie.Need-loop-again Inv-loop μ-loop
 loop-again c =
     let passed = c .before .before .before .before .loop in (
@@ -96,14 +72,14 @@ wall-in-spec =
     Inv-loop
     μ-loop
     loop-holds
-    row-start-requires
-    add-first-wall
-    add-first-wall-2
-    first-wall-requires
-    add-if1
-    sub-t14
+    (λ c κs. search needs)
+    (λ c. search needs)
+    (λ c. search needs)
+    (λ c κs. search needs)
+    (λ c. search needs)
+    (λ c. search needs)
     returns
-    add-row
-    loop-less
+    (λ c. search needs)
+    (λ c. search needs)
     loop-again
     returns-2)

@@ -16,15 +16,9 @@ h-is : (c : tie.After-is-from-one2) →
     c .is-from-one2 .result ≡ fromOne (c .before .before .before .args .yard .h) 64
 h-is c = c .is-from-one2 .ensures
 
-is-from-one-requires : tie.Need-is-from-one-requires
-is-from-one-requires c κs = search needs
-
 returns : tie.Need-returns
 unfolding rangesHold
 returns c = rw (failed (w-is (c .before)) (c .if1 .taken))
-
-is-from-one-requires-2 : tie.Need-is-from-one-requires-2
-is-from-one-requires-2 c κs = search needs
 
 returns-2 : tie.Need-returns-2
 unfolding rangesHold
@@ -34,9 +28,6 @@ returns-2 c =
       passed (w-is (first .before)) (first .if1 .left),
       failed (h-is (c .before)) (c .if2 .taken),
     )
-
-is-from-one-requires-3 : tie.Need-is-from-one-requires-3
-is-from-one-requires-3 c κs = search needs
 
 returns-3 : tie.Need-returns-3
 unfolding rangesHold
@@ -53,9 +44,9 @@ pub ranges-hold-spec : {M : Type 1} → statement M
 ranges-hold-spec =
     tie.close
     (tie.spec
-    is-from-one-requires
+    (λ c κs. search needs)
     returns
-    is-from-one-requires-2
+    (λ c κs. search needs)
     returns-2
-    is-from-one-requires-3
+    (λ c κs. search needs)
     returns-3)

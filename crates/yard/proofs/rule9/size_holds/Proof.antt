@@ -9,18 +9,6 @@ use Rattle.yard.proofs.Signed.{got, test-is}
 use Rattle.yard.proofs.rule9.size_holds.Statement.{statement}
 use Rattle.yard.proofs.rule9.size_holds.Tie as tie
 
-word-of-requires : tie.Need-word-of-requires
-word-of-requires c κs = search needs
-
-word-of-requires-2 : tie.Need-word-of-requires-2
-word-of-requires-2 c κs = search needs
-
-is-between-requires : tie.Need-is-between-requires
-is-between-requires c κs = search needs
-
-is-between-requires-2 : tie.Need-is-between-requires-2
-is-between-requires-2 c κs = search needs
-
 w-is : (c : tie.After-is-between) → let a = c .before .before .before .args in
     c .is-between .result ≡ between (pos 1) (word (a .boxes .now) (a .i) 2) (pos 1024)
 w-is c =
@@ -47,9 +35,9 @@ pub size-holds-spec : {M : Type 1} → statement M
 size-holds-spec =
     tie.close
     (tie.spec
-    word-of-requires
-    word-of-requires-2
-    is-between-requires
-    is-between-requires-2
+    (λ c κs. search needs)
+    (λ c κs. search needs)
+    (λ c κs. search needs)
+    (λ c κs. search needs)
     returns
     returns-2)

@@ -13,29 +13,19 @@ Inv-loop boxes b i₀ i = (i ≤ b) × Below (sizeHolds boxes) i
 abbrev μ-loop : tie.MeasureT-loop
 μ-loop boxes b i₀ i = b - i
 
-cast-b : tie.Need-cast-b Inv-loop μ-loop
-cast-b c = search needs
-
 loop-holds : tie.Need-loop-holds Inv-loop μ-loop
 loop-holds c = (search needs, below-none _)
-
-size-holds-requires : tie.Need-size-holds-requires Inv-loop μ-loop
-size-holds-requires c κs = search needs
 
 returns : tie.Need-returns Inv-loop μ-loop
 unfolding sizesHold
 returns c = stops _ (search needs) (c .before .size-holds .ensures) (c .if1 .taken)
 
-add-i : tie.Need-add-i Inv-loop μ-loop
-add-i c = search needs
-
-loop-less : tie.Need-loop-less Inv-loop μ-loop
-loop-less c = search needs
-
 loop-again : tie.Need-loop-again Inv-loop μ-loop
 loop-again c =
-    let t = c .before in
-    (search needs, goes-on _ (t .before .before .loop .inv .1) (t .size-holds .ensures) (c .if1 .left))
+    let t = c .before in (
+      search needs,
+      goes-on _ (t .before .before .loop .inv .1) (t .size-holds .ensures) (c .if1 .left),
+    )
 
 returns-2 : tie.Need-returns-2 Inv-loop μ-loop
 unfolding sizesHold
@@ -47,11 +37,11 @@ sizes-hold-spec =
     (tie.spec
     Inv-loop
     μ-loop
-    cast-b
+    (λ c. search needs)
     loop-holds
-    size-holds-requires
+    (λ c κs. search needs)
     returns
-    add-i
-    loop-less
+    (λ c. search needs)
+    (λ c. search needs)
     loop-again
     returns-2)

@@ -5,15 +5,6 @@ use Rattle.yard.proofs.Signed.{got}
 use Rattle.yard.proofs.rule9.start_holds.Statement.{statement}
 use Rattle.yard.proofs.rule9.start_holds.Tie as tie
 
-at-requires : tie.Need-at-requires
-at-requires c κs = search needs
-
-word-of-requires : tie.Need-word-of-requires
-word-of-requires c κs = search needs
-
-word-of-requires-2 : tie.Need-word-of-requires-2
-word-of-requires-2 c κs = search needs
-
 is-free-requires : tie.Need-is-free-requires
 is-free-requires c κs =
     let s = c .before .before .before .before in
@@ -35,4 +26,10 @@ returns c =
 
 pub start-holds-spec : {M : Type 1} → statement M
 start-holds-spec =
-    tie.close (tie.spec at-requires word-of-requires word-of-requires-2 is-free-requires returns)
+    tie.close
+    (tie.spec
+    (λ c κs. search needs)
+    (λ c κs. search needs)
+    (λ c κs. search needs)
+    is-free-requires
+    returns)

@@ -14,9 +14,6 @@ Inv-loop yard cells boxes b i₀ i = (i ≤ b) × Below (startHolds yard cells b
 abbrev μ-loop : tie.MeasureT-loop
 μ-loop yard cells boxes b i₀ i = b - i
 
-cast-b : tie.Need-cast-b Inv-loop μ-loop
-cast-b c = search needs
-
 loop-holds : tie.Need-loop-holds Inv-loop μ-loop
 loop-holds c = (search needs, below-none _)
 
@@ -29,16 +26,12 @@ returns : tie.Need-returns Inv-loop μ-loop
 unfolding startsHold
 returns c = stops _ (search needs) (c .before .start-holds .ensures) (c .if1 .taken)
 
-add-i : tie.Need-add-i Inv-loop μ-loop
-add-i c = search needs
-
-loop-less : tie.Need-loop-less Inv-loop μ-loop
-loop-less c = search needs
-
 loop-again : tie.Need-loop-again Inv-loop μ-loop
 loop-again c =
-    let t = c .before in
-    (search needs, goes-on _ (t .before .before .loop .inv .1) (t .start-holds .ensures) (c .if1 .left))
+    let t = c .before in (
+      search needs,
+      goes-on _ (t .before .before .loop .inv .1) (t .start-holds .ensures) (c .if1 .left),
+    )
 
 returns-2 : tie.Need-returns-2 Inv-loop μ-loop
 unfolding startsHold
@@ -50,11 +43,11 @@ starts-hold-spec =
     (tie.spec
     Inv-loop
     μ-loop
-    cast-b
+    (λ c. search needs)
     loop-holds
     start-holds-requires
     returns
-    add-i
-    loop-less
+    (λ c. search needs)
+    (λ c. search needs)
     loop-again
     returns-2)

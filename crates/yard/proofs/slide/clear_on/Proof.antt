@@ -6,24 +6,6 @@ use Rattle.yard.proofs.Signed.{got}
 use Rattle.yard.proofs.slide.clear_on.Statement.{statement}
 use Rattle.yard.proofs.slide.clear_on.Tie as tie
 
-enum-told : tie.Need-enum-told
-enum-told c = search needs
-
-toward-requires : tie.Need-toward-requires
-toward-requires c κs = search needs
-
-is-free-requires : tie.Need-is-free-requires
-is-free-requires c κs = search needs
-
-enum-told-2 : tie.Need-enum-told-2
-enum-told-2 c = search needs
-
-toward-requires-2 : tie.Need-toward-requires-2
-toward-requires-2 c κs = search needs
-
-is-free-requires-2 : tie.Need-is-free-requires-2
-is-free-requires-2 c κs = search needs
-
 returns : tie.Need-returns
 unfolding clearOn
 returns c =
@@ -58,11 +40,11 @@ pub clear-on-spec : {M : Type 1} → statement M
 clear-on-spec =
     tie.close
     (tie.spec
-    enum-told
-    toward-requires
-    is-free-requires
-    enum-told-2
-    toward-requires-2
-    is-free-requires-2
+    (λ c. search needs)
+    (λ c κs. search needs)
+    (λ c κs. search needs)
+    (λ c. search needs)
+    (λ c κs. search needs)
+    (λ c κs. search needs)
     returns
     returns-2)

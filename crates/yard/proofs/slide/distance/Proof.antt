@@ -24,9 +24,6 @@ Inv-loop yard cells size axis speed x y most k₀ k =
 abbrev μ-loop : tie.MeasureT-loop
 μ-loop yard cells size axis speed x y most k₀ k = most - k
 
-magnitude-requires : tie.Need-magnitude-requires Inv-loop μ-loop
-magnitude-requires c κs = search needs
-
 most-small : (c : tie.After-magnitude Inv-loop μ-loop) → c .magnitude .result ≤ 200
 most-small c =
     let s = c .before .before in
@@ -59,9 +56,6 @@ returns c =
 add-k : tie.Need-add-k Inv-loop μ-loop
 add-k c = omega (arith, most-small (c .before .before .before .before))
 
-loop-less : tie.Need-loop-less Inv-loop μ-loop
-loop-less c = search needs
-
 loop-again : tie.Need-loop-again Inv-loop μ-loop
 loop-again c =
     let l = c .before .before in
@@ -82,12 +76,12 @@ distance-spec =
     (tie.spec
     Inv-loop
     μ-loop
-    magnitude-requires
+    (λ c κs. search needs)
     loop-holds
     add-clear-on
     clear-on-requires
     returns
     add-k
-    loop-less
+    (λ c. search needs)
     loop-again
     returns-2)

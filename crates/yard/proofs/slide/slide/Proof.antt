@@ -54,12 +54,6 @@ most-is : (c : tie.After-magnitude) → let s = c .before .before .before .befor
 most-is c =
     rw (c .magnitude .ensures, toZ-ofZ (c .before .before .before .before .before .fits .speed))
 
-distance-requires : tie.Need-distance-requires
-distance-requires c κs = search needs
-
-pick-requires : tie.Need-pick-requires
-pick-requires c κs = search needs
-
 toward-requires : tie.Need-toward-requires
 toward-requires c κs =
     let s = c .before .before .before in
@@ -68,9 +62,6 @@ toward-requires c κs =
     let most = distance-most (place s) (a .axis) (a .speed) (a .x) (a .y) in
     rw (from-is c, units-is (c .before))
     (on-abs (a .axis) (a .x) (a .y) (n .0) (n .1), omega arith)
-
-magnitude-requires : tie.Need-magnitude-requires
-magnitude-requires c κs = search needs
 
 returns : tie.Need-returns
 unfolding slide
@@ -94,4 +85,10 @@ returns-2 c =
 pub slide-spec : {M : Type 1} → statement M
 slide-spec =
     tie.close
-    (tie.spec distance-requires pick-requires toward-requires magnitude-requires returns returns-2)
+    (tie.spec
+    (λ c κs. search needs)
+    (λ c κs. search needs)
+    toward-requires
+    (λ c κs. search needs)
+    returns
+    returns-2)

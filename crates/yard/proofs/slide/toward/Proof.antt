@@ -32,17 +32,11 @@ more c =
     rw (toZ-ofZ (s .fits .from), toZ-pos w32 {n = s .args .units} (omega arith))
     (toward-more _ _ _ (rw (toZ-ofZ (s .fits .speed)) at (c .if1 .left)))
 
-cast-result : tie.Need-cast-result
-cast-result c = search needs
-
 sub-result : tie.Need-sub-result
 sub-result c = rw (less c) (place-fits (c .before))
 
 returns : tie.Need-returns
 returns c = rw (less c) (toZ-ofZ (place-fits (c .before)))
-
-cast-result-2 : tie.Need-cast-result-2
-cast-result-2 c = search needs
 
 add-result : tie.Need-add-result
 add-result c = rw (more c) (place-fits (c .before))
@@ -52,4 +46,11 @@ returns-2 c = rw (more c) (toZ-ofZ (place-fits (c .before)))
 
 pub toward-spec : {M : Type 1} → statement M
 toward-spec =
-    tie.close (tie.spec cast-result sub-result returns cast-result-2 add-result returns-2)
+    tie.close
+    (tie.spec
+    (λ c. search needs)
+    sub-result
+    returns
+    (λ c. search needs)
+    add-result
+    returns-2)

@@ -39,9 +39,6 @@ cast-result-2 c =
     let e = toZ-ofZ (c .before .fits .z) in
     rw e (cast-abs _ (rw e at (c .if1 .left)) (c .before .fits .z))
 
-returns-2 : tie.Need-returns-2
-returns-2 c = search needs
-
 pub magnitude-spec : {M : Type 1} → statement M
 magnitude-spec =
-    tie.close (tie.spec sub-result cast-result add-result returns cast-result-2 returns-2)
+    tie.close (tie.spec sub-result cast-result add-result returns cast-result-2 (λ c. search needs))
