@@ -9,4 +9,5 @@ pub mod Ways
 pub mod Alike
 pub mod Eights
 pub mod ThreeLogs
+pub mod Examples
 pub mod Statements
