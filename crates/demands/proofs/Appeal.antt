@@ -1,18 +1,16 @@
 -- The statement of specs/Appeal.antt, proved by the model of demand 3.
 use Prim.Native.Nat.{ℕ, _*_, _≤_}
 use mathlib.Core.Path.{_≡_, refl, sym, ap, subst, _∙_}
-use mathlib.Core.Logic.{_↔_, _⊎_, inl, inr, ⊎-elim, Iff·trans}
+use mathlib.Core.Logic.{_↔_, _⊎_, inl, inr, ⊎-elim, ⊎-map, Iff·rfl, Iff·symm, Iff·trans}
 use mathlib.Core.Bool.{Bool, true, false, cond}
 use mathlib.Core.List.{List, [], _∷_, List·Memᴰ, List·Memᴰ·head, List·Memᴰ·tail}
 use mathlib.Core.List.{List·Memᴰ·cases-cons, List·Memᴰ·not-nil}
-use native.Mathlib.Omega.{arith}
 use lib.ListN.{length, take}
 use Rattle.basis.specs.Filled.{Filled, filled}
 use Rattle.basis.specs.LittleEndian.{Bytes}
 use Rattle.basis.specs.Numbers.{mostCarriers}
 use Rattle.basis.specs.Order.{Answer, refused, accepted, isAccepted}
 use Rattle.basis.proofs.Tests.{never}
-use Rattle.record.specs.Bytes.{recordOf}
 use Rattle.record.specs.Held.{bufferSize, bufferOf}
 use Rattle.record.specs.Log.{records, recordsOf, logOf}
 use Rattle.record.specs.declared.bytes.Record.{Record}
@@ -41,7 +39,7 @@ use Rattle.course.proofs.Records.{same-log}
 use Rattle.session.proofs.Room.{carriers-most}
 use Rattle.yard.proofs.Fits.{ranges}
 use Rattle.demands.specs.Appeal.{deliveredBy, EndsAsReplay, Appeal}
-use Rattle.demands.specs.Handed.{Handed, sessionIn, deliveryAnswer, next, Reached, heldBy}
+use Rattle.demands.specs.Handed.{Handed, sessionIn, deliveryAnswer, Reached, heldBy}
 use Rattle.demands.specs.Handed.{heldPart}
 use Rattle.demands.proofs.Demand2.{demand2}
 use Rattle.demands.proofs.Demand3.{answered}
@@ -60,15 +58,16 @@ module _ {x r : Record} {P : Type 0} {l : List Record} where
   )
   added false = (⊎-elim (⊎-elim inl (λ h. never (h .0) refl)) inr, ⊎-elim (λ p. inl (inl p)) inr)
 
-either-iff : {P Q R : Type 0} → P ↔ Q → (P ⊎ R) ↔ (Q ⊎ R)
-either-iff (there, back) = (⊎-elim (λ p. inl (there p)) inr, ⊎-elim (λ q. inl (back q)) inr)
+both-iff : {P Q R S : Type 0} → P ↔ Q → R ↔ S → (P ⊎ R) ↔ (Q ⊎ S)
+both-iff p q = (⊎-map (p .0) (q .0), ⊎-map (p .1) (q .1))
 
 module _ (world : World) (opens : Opens world) where
   -- A delivery is accepted in the words where it is in the model.
   same-accepted : (s : Session (model world)) → Kept s → (bytes : List ℕ)
       → isAccepted (deliveryAnswer world (handed world s) bytes)
       ≡ isAccepted (answerTo s (delivery bytes))
-  same-accepted s k bytes = ap isAccepted (answered world opens s k bytes refl) ∙ go _
+  same-accepted s k bytes =
+      ap isAccepted (answered world opens s k bytes refl) ∙ go (answerTo s (delivery bytes))
     where
       go : (a : Answer (Outcome (model world)))
           → isAccepted (mapped (asDelivered world opens s k) a) ≡ isAccepted a
@@ -84,13 +83,14 @@ module _ (world : World) (opens : Opens world) where
   held-after s k (reading t ∷ calls) x =
       let then = modelNext s (reading t) in
       let later = held-after then (kept-next (lawful world opens) (reading t) k) calls x in
-      rw (same-next world opens s k (reading t), ← read-log s t) later
+      let same : List·Memᴰ x (then .log) ↔ List·Memᴰ x (s .log) = rw (read-log s t) Iff·rfl in
+      rw (same-next world opens s k (reading t)) (Iff·trans later (both-iff same Iff·rfl))
   held-after s k (delivery bytes ∷ calls) x =
       let then = modelNext s (delivery bytes) in
       let later = held-after then (kept-next (lawful world opens) (delivery bytes) k) calls x in
       rw (same-next world opens s k (delivery bytes), same-accepted s k bytes)
       (Iff·trans later
-      (Iff·trans (either-iff (delivery-adds s bytes x))
+      (Iff·trans (both-iff (delivery-adds s bytes x) Iff·rfl)
       (added (isAccepted (answerTo s (delivery bytes))))))
 
   -- The records of a session, and its log.
@@ -142,7 +142,7 @@ module _ (world : World) (opens : Opens world) where
         same-log (fine-merge f g .climbs) (m .climbs)
         (λ r.
         Iff·trans (exactly most f g (agree-said (k .climbs) (l .climbs) agreed) r)
-        (same r .1, same r .0))
+        (Iff·symm (same r)))
 
     merged-as : (before : List ℕ) → length before ≡ bufferSize
         → mergeLeaves before (said (world .yard .b) (length before) (logOf (s .log))
@@ -161,15 +161,6 @@ module _ (world : World) (opens : Opens world) where
         } in
         ap (mergeLeaves before)
         (is-merged _ _ _ _ given (rw (one, two) agreed) (rw all (m .few)) ∙ ap accepted all)
-
-swap-iff : {P Q : Type 0} → P ↔ Q → Q ↔ P
-swap-iff (there, back) = (back, there)
-
-both-iff : {P Q R S : Type 0} → P ↔ Q → R ↔ S → (P ⊎ R) ↔ (Q ⊎ S)
-both-iff p q = (
-  ⊎-elim (λ x. inl (p .0 x)) (λ y. inr (q .0 y)),
-  ⊎-elim (λ x. inl (p .1 x)) (λ y. inr (q .1 y)),
-)
 
 -- Of a session as in demand 3: the model's records, what was delivered, and its log.
 module _ {world : World} {first : ℕ} {calls : List Call} {h : Handed}
@@ -222,7 +213,7 @@ appeal world =
           (λ r.
           Iff·trans (delivered all r)
           (Iff·trans (same r)
-          (both-iff (swap-iff (delivered one r)) (swap-iff (delivered two r)))))
+          (both-iff (Iff·symm (delivered one r)) (Iff·symm (delivered two r)))))
           before long)) in (
             left,
             subst (λ x. EndsAsReplay world h (take (8 * sessionIn h .held) x))
