@@ -1,4 +1,5 @@
--- Document 02, §9, 'Two stations, one log', of sessions as in demand 3; proofs/Appeal.antt proves it.
+-- Document 02, §9, 'Two stations, one log', of sessions as in demand 3; proofs/Appeal.antt proves
+-- it.
 use Prim.Native.Nat.{ℕ, _*_}
 use mathlib.Core.Path.{_≡_}
 use mathlib.Core.Bool.{cond}

@@ -14,6 +14,8 @@ use Rattle.basis.specs.Numbers.{ROOM, FAULT}
 use Rattle.basis.specs.Order.{Order, answer, refused, andThen, give}
 use Rattle.basis.proofs.Order.{passes, fails, one-result}
 use Rattle.basis.proofs.Tests.{never, and-both}
+use Rattle.merge.specs.Calls.{carriersHold, mergeOrder}
+use Rattle.merge.proofs.Orders.{no-carriers, no-room}
 use Rattle.load.specs.Step.{stepOrder}
 use Rattle.yard.specs.Rule9.{rangesHold}
 use Rattle.yard.specs.declared.world.Yard.{Yard}
@@ -26,7 +28,7 @@ use Rattle.session.specs.declared.Session.{Session}
 use Rattle.session.proofs.Good.{bad-ranges}
 use Rattle.station.specs.Words.{sessionWords, sessionOf, nine}
 use Rattle.station.specs.Face.{openFace, readingFace, deliverFace, shows, digestFace}
-use Rattle.station.specs.Face.{shownFace, stepRecordsFace, loadOf, loadStepFace}
+use Rattle.station.specs.Face.{shownFace, stepRecordsFace, mergeFace, loadOf, loadStepFace}
 use Rattle.station.specs.Ropes.{kindsHold, forceOf, forcesOf, pointOf, ropeFace}
 use Rattle.station.specs.Statements.{NineWords, Determined, Refusals}
 use Rattle.station.specs.Statements.{Lengths, Thin, LoadFace, TwoNumbers}
@@ -56,6 +58,7 @@ determined =
       stepRecords = λ log step out. one-result;
       readRecord = λ bytes out. one-result;
       writeRecord = λ step carrier lever out. one-result;
+      merge = λ b one two out count. one-result;
       loadStep = λ stiffness words. one-result;
       opens = λ yard reading l words. one-result;
       reading = λ reading l words. one-result;
@@ -72,6 +75,7 @@ refusals =
       filled = λ before a n e. rw e;
       running = λ l words a n e. rw e;
       delivered = λ l words a n e. rw e;
+      merged = λ out count a n e. rw e;
     }
 
 -- Opening tests the ranges first, so the face's own test of them changes nothing.
@@ -142,6 +146,20 @@ part-room : (log : List ℕ) (step : ℕ) (out : List ℕ) → (length out ≡ 2
 unfolding stepRecordsFace
 part-room log step out h = fails _ _ (ne-eqb _ _ h)
 
+merge-room : (b : ℕ) (one two out count : List ℕ) → carriersHold b ≡ true
+    → (length count ≡ 1 → ⊥) ⊎ (length out ≡ 16384 → ⊥)
+    → answer (mergeFace b one two out count) ≡ refused ROOM
+unfolding mergeFace
+merge-room b one two out count few wrong = go (eqb (length count) 1) refl wrong
+  where
+    go : (t : Bool) → eqb (length count) 1 ≡ t
+        → (length count ≡ 1 → ⊥) ⊎ (length out ≡ 16384 → ⊥)
+        → answer (mergeFace b one two out count) ≡ refused ROOM
+    go false e h = passes _ _ few ∙ fails _ _ e
+    go true e (inl h) = absurd (h (eqb-true _ _ e))
+    go true e (inr h) =
+        passes _ _ few ∙ passes _ _ e ∙ no-room b (length out) one two few h
+
 load-room : (stiffness : ℕ) (words : List ℤ) → (length words ≡ 2 → ⊥)
     → answer (loadStepFace stiffness words) ≡ refused ROOM
 unfolding loadStepFace
@@ -175,6 +193,7 @@ lengths =
       stepRecords = part-room;
       readRecord = λ bytes out r. read-no-room bytes out;
       writeRecord = λ step carrier lever out r. not-eight step carrier lever out;
+      merge = merge-room;
       loadStep = load-room;
       ropeStep = rope-room;
     }
@@ -202,6 +221,17 @@ shows-place : (carrier : ℕ) (l : Lent) (words : List ℕ) (out : List Float)
     (λ place. give (place .x ∷ place .y ∷ [])))
 unfolding shownFace
 shows-place carrier l words out long two = shows-order _ _ _ _ _ two (eq-eqb _ _ long)
+
+-- A merge tests B first, so the face's own test of it changes nothing.
+merges : (b : ℕ) (one two out count : List ℕ) → length count ≡ 1
+    → answer (mergeFace b one two out count) ≡ answer (mergeOrder b (length out) one two)
+unfolding mergeFace
+merges b one two out count long = go (carriersHold b) refl
+  where
+    go : (t : Bool) → carriersHold b ≡ t
+        → answer (mergeFace b one two out count) ≡ answer (mergeOrder b (length out) one two)
+    go false e = fails _ _ e ∙ sym (no-carriers b (length out) one two e)
+    go true e = passes _ _ e ∙ passes _ _ (eq-eqb _ _ long)
 
 load-steps : (stiffness : ℕ) (words : List ℤ) → length words ≡ 2
     → answer (loadStepFace stiffness words)
@@ -236,6 +266,7 @@ thin =
       deliver = delivers;
       digest = digests;
       shown = shows-place;
+      merge = merges;
       loadStep = load-steps;
       ropeStep = steps-rope;
     }
