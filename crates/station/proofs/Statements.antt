@@ -9,13 +9,12 @@ use lib.Dec.{eqb}
 use lib.Ieee.{Float}
 use lib.IntN.{ℤ}
 use lib.ListN.{length}
-use borrow.Author.Tests.{eq-eqb, ne-eqb, eqb-true}
+use borrow.Author.Tests.{eq-eqb, ne-eqb, eqb-true, eqb-false}
 use Rattle.basis.specs.Numbers.{ROOM, FAULT}
 use Rattle.basis.specs.Order.{Order, answer, refused, andThen, give}
 use Rattle.basis.proofs.Order.{passes, fails, one-result}
 use Rattle.basis.proofs.Tests.{never, and-both}
-use Rattle.merge.specs.Calls.{carriersHold, mergeOrder}
-use Rattle.merge.proofs.Orders.{no-carriers, no-room}
+use Rattle.merge.specs.Calls.{carriersHold}
 use Rattle.load.specs.Step.{stepOrder}
 use Rattle.yard.specs.Rule9.{rangesHold}
 use Rattle.yard.specs.declared.world.Yard.{Yard}
@@ -33,6 +32,7 @@ use Rattle.station.specs.Ropes.{kindsHold, forceOf, forcesOf, pointOf, r
 use Rattle.station.specs.Statements.{NineWords, Determined, Refusals}
 use Rattle.station.specs.Statements.{Lengths, Thin, LoadFace, TwoNumbers}
 use Rattle.station.proofs.Loading.{load-numbers}
+use Rattle.station.proofs.Merging.{wrong-count, wrong-buffer, merges}
 use Rattle.station.proofs.OneRecord.{read-no-room, not-eight}
 use Rattle.station.proofs.Showing.{wrong-out, shows-order}
 use Rattle.station.proofs.Ropes.{wrong-numbers, wrong-point}
@@ -149,16 +149,14 @@ part-room log step out h = fails _ _ (ne-eqb _ _ h)
 merge-room : (b : ℕ) (one two out count : List ℕ) → carriersHold b ≡ true
     → (length count ≡ 1 → ⊥) ⊎ (length out ≡ 16384 → ⊥)
     → answer (mergeFace b one two out count) ≡ refused ROOM
-unfolding mergeFace
 merge-room b one two out count few wrong = go (eqb (length count) 1) refl wrong
   where
     go : (t : Bool) → eqb (length count) 1 ≡ t
         → (length count ≡ 1 → ⊥) ⊎ (length out ≡ 16384 → ⊥)
         → answer (mergeFace b one two out count) ≡ refused ROOM
-    go false e h = passes _ _ few ∙ fails _ _ e
+    go false e h = wrong-count b one two out count few (eqb-false _ _ e)
     go true e (inl h) = absurd (h (eqb-true _ _ e))
-    go true e (inr h) =
-        passes _ _ few ∙ passes _ _ e ∙ no-room b (length out) one two few h
+    go true e (inr h) = wrong-buffer b one two out count few (eqb-true _ _ e) h
 
 load-room : (stiffness : ℕ) (words : List ℤ) → (length words ≡ 2 → ⊥)
     → answer (loadStepFace stiffness words) ≡ refused ROOM
@@ -221,17 +219,6 @@ shows-place : (carrier : ℕ) (l : Lent) (words : List ℕ) (out : List Float)
     (λ place. give (place .x ∷ place .y ∷ [])))
 unfolding shownFace
 shows-place carrier l words out long two = shows-order _ _ _ _ _ two (eq-eqb _ _ long)
-
--- A merge tests B first, so the face's own test of it changes nothing.
-merges : (b : ℕ) (one two out count : List ℕ) → length count ≡ 1
-    → answer (mergeFace b one two out count) ≡ answer (mergeOrder b (length out) one two)
-unfolding mergeFace
-merges b one two out count long = go (carriersHold b) refl
-  where
-    go : (t : Bool) → carriersHold b ≡ t
-        → answer (mergeFace b one two out count) ≡ answer (mergeOrder b (length out) one two)
-    go false e = fails _ _ e ∙ sym (no-carriers b (length out) one two e)
-    go true e = passes _ _ e ∙ passes _ _ (eq-eqb _ _ long)
 
 load-steps : (stiffness : ℕ) (words : List ℤ) → length words ≡ 2
     → answer (loadStepFace stiffness words)

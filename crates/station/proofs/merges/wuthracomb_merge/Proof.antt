@@ -1,88 +1,75 @@
+-- `wuthracomb_merge` meets its contract.
+use mathlib.Core.Path.{_≡_, sym, ap, _∙_}
+use mathlib.Core.Bool.{true}
+use mathlib.Core.List.{[], _∷_}
+use denote.Ref.{now}
 use borrow.Author.Needs.{needs}
+use Rattle.basis.proofs.Tests.{passed, failed}
+use Rattle.merge.specs.Calls.{carriersHold}
+use Rattle.merge.specs.declared.Merged.{Merged}
+use Rattle.station.specs.Left.{DONE, counted, leavesMerged}
+use Rattle.station.proofs.Merging.{asCounted, wrong-b, wrong-count, merge-leaves}
+use Rattle.station.proofs.Stores.{stores}
 use Rattle.station.proofs.merges.wuthracomb_merge.Statement.{statement}
 use Rattle.station.proofs.merges.wuthracomb_merge.Tie as tie
-use Rattle.station.proofs.merges.wuthracomb_merge.Reads as reads
-use Rattle.station.proofs.merges.wuthracomb_merge.Lts as lts
-use Rattle.merge.proofs.carriers_hold.Reads as carriers-hold-reads
-use Rattle.merge.proofs.merge_logs.Reads as merge-logs-reads
-use Rattle.station.proofs.wide.Reads as wide-reads
 
--- src/merges.rt:25:9
-carriers-hold-requires : tie.Need-carriers-hold-requires
-carriers-hold-requires c κs = search needs
+abbrev start : tie.Else1 → tie.Start
+start e = e .before .before .before .before .before .before
 
--- src/merges.rt:26:9
-wide-requires : tie.Need-wide-requires
-wide-requires c κs = search needs
+few : (e : tie.Else1) → carriersHold (start e .args .b) ≡ true
+few e = passed (e .before .carriers-hold .ensures) (e .if1 .left)
 
--- src/merges.rt:26:9
 returns : tie.Need-returns
-returns c = ?
+returns c =
+    let t = c .before in
+    rw (c .wide .ensures)
+    (sym
+    (ap (leavesMerged _ _)
+    (wrong-b _ _ _ _ _ (failed (t .before .carriers-hold .ensures) (t .if1 .taken)))))
 
--- src/merges.rt:29:9
-wide-requires-2 : tie.Need-wide-requires-2
-wide-requires-2 c κs = search needs
-
--- src/merges.rt:29:9
 returns-2 : tie.Need-returns-2
-returns-2 c = ?
+returns-2 c =
+    let t = c .before in
+    rw (c .wide2 .ensures)
+    (sym (ap (leavesMerged _ _) (wrong-count _ _ _ _ _ (few (t .before)) (t .if2 .taken))))
 
--- src/merges.rt:31:11
-merge-logs-requires : tie.Need-merge-logs-requires
-merge-logs-requires c κs = search needs
-
--- src/merges.rt:32:25
-enum-known-number : tie.Need-enum-known-number
-enum-known-number c = search needs
-
--- src/merges.rt:32:36
-wide-requires-3 : tie.Need-wide-requires-3
-wide-requires-3 c κs = search needs
-
--- src/merges.rt:33:23
-enum-known-records : tie.Need-enum-known-records
-enum-known-records c = search needs
-
--- src/merges.rt:34:13
-slice-write-count : tie.Need-slice-write-count
-slice-write-count c = search needs
-
--- src/merges.rt:13:1
-same-length : tie.Need-same-length
-same-length c = search needs
-
--- src/merges.rt:13:1
 returns-3 : tie.Need-returns-3
-returns-3 c = ?
+returns-3 c =
+    let n = c .before .before in
+    let m = n .before .before .before .before in
+    let e = m .before .before in
+    let s = start (e .before) in
+    rw (c .wide3 .ensures)
+    (ap (asCounted (now (s .args .count)) _) (sym (n .number .given .1))
+    ∙ merge-leaves _ _ _ _ _ _ _ (e .if2 .left) (m .merge-logs .ensures))
 
--- src/merges.rt:13:1
-same-length-2 : tie.Need-same-length-2
-same-length-2 c = search needs
-
--- src/merges.rt:13:1
-same-length-3 : tie.Need-same-length-3
-same-length-3 c = search needs
-
--- src/merges.rt:13:1
 returns-4 : tie.Need-returns-4
-returns-4 c = ?
+returns-4 c =
+    let n = c .before in
+    let m = n .before .before .before .before in
+    let e = m .before .before in
+    let s = start (e .before) in
+    let records = n .records .given .0 .0 in
+    ap (counted DONE _) (stores (now (s .args .count)) (records ∷ []) (e .if2 .left))
+    ∙ ap (asCounted (now (s .args .count)) _) (sym (n .records .given .1))
+    ∙ merge-leaves _ _ _ _ _ _ _ (e .if2 .left) (m .merge-logs .ensures)
 
 pub wuthracomb-merge-spec : {M : Type 1} → statement M
 wuthracomb-merge-spec =
     tie.close
     (tie.spec
-    carriers-hold-requires
-    wide-requires
+    (λ c κs. search needs)
+    (λ c κs. search needs)
     returns
-    wide-requires-2
+    (λ c κs. search needs)
     returns-2
-    merge-logs-requires
-    enum-known-number
-    wide-requires-3
-    enum-known-records
-    slice-write-count
-    same-length
+    (λ c κs. search needs)
+    (λ c. search needs)
+    (λ c κs. search needs)
+    (λ c. search needs)
+    (λ c. search needs)
+    (λ c. search needs)
     returns-3
-    same-length-2
-    same-length-3
+    (λ c. search needs)
+    (λ c. search needs)
     returns-4)
