@@ -51,7 +51,7 @@ use Rattle.face.specs.Table.{Table, Fills, Leaves, Gives}
 use Rattle.face.proofs.Rungs.{By, told, like, rung, passed, end, joined, answers-by}
 use Rattle.face.proofs.Rungs.{else-fact, else-le, else-lt, else-eq, else-or, absent, present}
 
-abbrev all-done : {A : Type 0} → A → ℕ
+abbrev pub all-done : {A : Type 0} → A → ℕ
 all-done a = 255
 
 -- A function that fills one slice.

@@ -6,7 +6,6 @@ use denote.Ref.{now}
 use borrow.Author.Needs.{needs}
 use Rattle.basis.proofs.Tests.{passed, failed}
 use Rattle.merge.specs.Calls.{carriersHold}
-use Rattle.merge.specs.declared.Merged.{Merged}
 use Rattle.station.specs.Left.{DONE, counted, leavesMerged}
 use Rattle.station.proofs.Merging.{asCounted, wrong-b, wrong-count, merge-leaves}
 use Rattle.station.proofs.Stores.{stores}
