@@ -23,7 +23,7 @@ use Rattle.merge.specs.Merge.{merge, bothOf, agree}
 use Rattle.merge.specs.Says.{MergeLogsSays}
 use Rattle.merge.specs.declared.Merged.{Merged}
 use Rattle.merge.specs.declared.Merged.the-variants as merged
-use Rattle.merge.proofs.Alike.{leaves, its-records, its-log}
+use Rattle.merge.proofs.Alike.{its-fine, its-records, its-log}
 use Rattle.merge.proofs.Fine.{Fine, fine-merge, logged, log-is-sound}
 use Rattle.merge.proofs.Holds.{Differs, exactly, agree-not}
 use Rattle.merge.proofs.Merges.{agree-said}
@@ -106,15 +106,15 @@ module _ (world : World) (opens : Opens world) where
       let carriers = world .yard .b in
       let members : (r : Record) → List·Memᴰ r (s .log) ↔ List·Memᴰ r (bothOf one two) =
       λ r.
-      rw (same-records world opens s k, its-records carriers one two before count after b c says) at
+      rw (same-records world opens s k, its-records carriers one two before count after says b c) at
       (same r) in
       let log : s .log ≡ bothOf one two =
-      same-log (k .climbs) (leaves carriers one two before count after b c says .fine .climbs)
+      same-log (k .climbs) (its-fine carriers one two before count after says b c .climbs)
       members in
       let front : take (8 * length (s .log)) (bufferOf (s .log)) ≡ take (8 * count) after =
       buffer-front (s .log)
       ∙ ap logOf log
-      ∙ sym (its-log carriers one two before count after b c says) in
+      ∙ sym (its-log carriers one two before count after says) in
       rw front at (demand2 world opens s k .replay state long)
 
   -- The merge of the logs of two sessions, where a third holds what the two hold.

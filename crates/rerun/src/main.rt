@@ -1,8 +1,6 @@
 // The program: the log on standard input, re-run in the practice yard (document 01, 'The program').
 //   practice  what a log comes to
 //   text      the lines of it
-//   input     standard input, however it is cut into reads
-mod input;
 mod practice;
 mod text;
 
@@ -15,6 +13,7 @@ ghost use Rattle.rerun.specs.Text.{programText};
 use input::Input;
 use input::read_input;
 use libc::STDERR_FILENO;
+use libc::STDIN_FILENO;
 use libc::STDOUT_FILENO;
 use practice::rerun;
 use record::Buffer;
@@ -35,7 +34,7 @@ fn program(input: &[u8], text: &mut [u8]) -> usize
 fn main() {
     let mut bytes = [0u8; Buffer::SIZE + 1];
     let mut text = [0u8; Text::SIZE];
-    let input = read_input(&mut bytes);
+    let input = read_input(STDIN_FILENO, &mut bytes);
     match input {
         Input::Read(n) => {
             let end = program(&bytes[..n], &mut text);
