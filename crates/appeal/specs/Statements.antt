@@ -1,43 +1,20 @@
--- Document 02, §9, 'Two stations, one log', of sessions as in demand 3; proofs/Appeal.antt proves
--- it.
+-- Document 02, §9, 'Two stations, one log', of sessions as in demand 3.
 use Prim.Native.Nat.{ℕ, _*_}
 use mathlib.Core.Path.{_≡_}
-use mathlib.Core.Bool.{cond}
 use mathlib.Core.Logic.{_↔_, _⊎_}
-use mathlib.Core.List.{List, [], _∷_, List·Memᴰ}
-use lib.IntN.{ℤ}
+use mathlib.Core.List.{List, List·Memᴰ}
 use lib.ListN.{length, take}
 use Rattle.basis.specs.Filled.{Filled, filled}
 use Rattle.basis.specs.LittleEndian.{Bytes}
-use Rattle.basis.specs.Order.{answer, accepted, isAccepted}
-use Rattle.record.specs.Bytes.{recordOf}
 use Rattle.record.specs.Log.{records}
 use Rattle.record.specs.declared.bytes.Record.{Record}
 use Rattle.merge.specs.Says.{MergeLogsSays}
 use Rattle.merge.specs.declared.Merged.{Merged}
 use Rattle.merge.specs.declared.Merged.the-variants as merged
-use Rattle.fleet.specs.State.{World, stateWords}
-use Rattle.course.specs.Calls.{Call, reading, delivery}
-use Rattle.session.specs.Calls.{replayOrder}
-use Rattle.demands.specs.Handed.{Handed, sessionIn, deliveryAnswer, next, Reached, stepsMade}
-use Rattle.demands.specs.Handed.{heldBy, heldPart}
-
--- The records that these calls deliver, given h first, without those that are refused: each is
--- answered 0, TAKEN, or 1, HELD.
-unfoldable pub deliveredBy : World → Handed → List Call → List Record
-deliveredBy world h [] = []
-deliveredBy world h (reading t ∷ calls) = deliveredBy world (next world h (reading t)) calls
-deliveredBy world h (delivery bytes ∷ calls) =
-    let later : List Record = deliveredBy world (next world h (delivery bytes)) calls in
-    cond (isAccepted (deliveryAnswer world h bytes)) (recordOf bytes ∷ later) later
-
--- The session ends as replay of this log, on its world, to its number of steps, whatever the state
--- buffer held.
-abbrev pub EndsAsReplay : World → Handed → List ℕ → Type 0
-EndsAsReplay world h log =
-    (state : List ℤ) → length state ≡ stateWords world
-    → answer (replayOrder (world .yard) (stepsMade h) (world .cells) (world .boxes) state log)
-    ≡ accepted (h .state)
+use Rattle.fleet.specs.State.{World}
+use Rattle.course.specs.Calls.{Call}
+use Rattle.demands.specs.Handed.{Handed, sessionIn, Reached, heldBy, heldPart}
+use Rattle.appeal.specs.Delivered.{deliveredBy, EndsAsReplay}
 
 -- Of sessions on one world.
 pub record Appeal (world : World) : Type 0 where

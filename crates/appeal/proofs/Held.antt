@@ -1,12 +1,12 @@
--- The statement of specs/Appeal.antt, proved by the model of demand 3.
+-- What a session of the model holds after calls, and the merge of the logs of two sessions.
 use Prim.Native.Nat.{ℕ, _*_, _≤_}
-use mathlib.Core.Path.{_≡_, refl, sym, ap, subst, _∙_}
+use mathlib.Core.Path.{_≡_, refl, sym, ap, _∙_}
 use mathlib.Core.Logic.{_↔_, _⊎_, inl, inr, ⊎-elim, ⊎-map, Iff·rfl, Iff·symm, Iff·trans}
 use mathlib.Core.Bool.{Bool, true, false, cond}
 use mathlib.Core.List.{List, [], _∷_, List·Memᴰ, List·Memᴰ·head, List·Memᴰ·tail}
 use mathlib.Core.List.{List·Memᴰ·cases-cons, List·Memᴰ·not-nil}
 use lib.ListN.{length, take}
-use Rattle.basis.specs.Filled.{Filled, filled}
+use Rattle.basis.specs.Filled.{filled}
 use Rattle.basis.specs.LittleEndian.{Bytes}
 use Rattle.basis.specs.Numbers.{mostCarriers}
 use Rattle.basis.specs.Order.{Answer, refused, accepted, isAccepted}
@@ -21,7 +21,6 @@ use Rattle.merge.specs.Calls.{mergeLeaves}
 use Rattle.merge.specs.Facts.{Mergeable}
 use Rattle.merge.specs.Merge.{merge, bothOf, agree}
 use Rattle.merge.specs.Says.{MergeLogsSays}
-use Rattle.merge.specs.declared.Merged.{Merged}
 use Rattle.merge.specs.declared.Merged.the-variants as merged
 use Rattle.merge.proofs.Alike.{its-fine, its-records, its-log}
 use Rattle.merge.proofs.Fine.{Fine, fine-merge, logged, log-is-sound}
@@ -30,22 +29,21 @@ use Rattle.merge.proofs.Merges.{agree-said}
 use Rattle.merge.proofs.Orders.{said}
 use Rattle.merge.proofs.Ways.{is-merged}
 use Rattle.fleet.specs.State.{World}
-use Rattle.course.specs.Calls.{Call, reading, delivery, Outcome, answerTo, sessionAfter}
+use Rattle.course.specs.Calls.{Call, reading, delivery, Outcome, answerTo}
 use Rattle.course.specs.Calls.{next as modelNext, run as modelRun}
-use Rattle.course.specs.Session.{Session, opening}
+use Rattle.course.specs.Session.{Session}
 use Rattle.course.proofs.Delivered.{read-log, delivery-adds}
-use Rattle.course.proofs.Kept.{Kept, kept-opening, kept-next}
+use Rattle.course.proofs.Kept.{Kept, kept-next}
 use Rattle.course.proofs.Records.{same-log}
 use Rattle.session.proofs.Room.{carriers-most}
 use Rattle.yard.proofs.Fits.{ranges}
-use Rattle.demands.specs.Appeal.{deliveredBy, EndsAsReplay, Appeal}
-use Rattle.demands.specs.Handed.{Handed, sessionIn, deliveryAnswer, Reached, heldBy}
-use Rattle.demands.specs.Handed.{heldPart}
+use Rattle.appeal.specs.Delivered.{deliveredBy, EndsAsReplay}
+use Rattle.demands.specs.Handed.{deliveryAnswer, heldBy}
 use Rattle.demands.proofs.Demand2.{demand2}
 use Rattle.demands.proofs.Demand3.{answered}
 use Rattle.demands.proofs.Model.{Opens, model, lawful}
-use Rattle.demands.proofs.Sessions.{same-next, opened-words, modelled}
+use Rattle.demands.proofs.Sessions.{same-next}
 use Rattle.demands.proofs.Ties.{handed, mapped, asDelivered, same-records}
 
 -- What is in a list, and what stands before it if a test holds.
 module _ {x r : Record} {P : Type 0} {l : List Record} where
@@ -58,7 +56,7 @@ module _ {x r : Record} {P : Type 0} {l : List Record} where
   )
   added false = (⊎-elim (⊎-elim inl (λ h. never (h .0) refl)) inr, ⊎-elim (λ p. inl (inl p)) inr)
 
-both-iff : {P Q R S : Type 0} → P ↔ Q → R ↔ S → (P ⊎ R) ↔ (Q ⊎ S)
+pub both-iff : {P Q R S : Type 0} → P ↔ Q → R ↔ S → (P ⊎ R) ↔ (Q ⊎ S)
 both-iff p q = (⊎-map (p .0) (q .0), ⊎-map (p .1) (q .1))
 
 module _ (world : World) (opens : Opens world) where
@@ -75,7 +73,7 @@ module _ (world : World) (opens : Opens world) where
       go (refused number) = refl
 
   -- What is held after these calls: what was, and what they deliver.
-  held-after : (s : Session (model world)) → Kept s → (calls : List Call) (x : Record)
+  pub held-after : (s : Session (model world)) → Kept s → (calls : List Call) (x : Record)
       → List·Memᴰ x (modelRun s calls .log)
       ↔ (List·Memᴰ x (s .log) ⊎ List·Memᴰ x (deliveredBy world (handed world s) calls))
   unfolding modelRun deliveredBy
@@ -97,7 +95,7 @@ module _ (world : World) (opens : Opens world) where
   fine : (s : Session (model world)) → Kept s → Fine (world .yard .b) (s .log)
   fine s k = record { climbs = k .climbs; within = k .within }
 
-  ends : (s : Session (model world)) → Kept s → (one two before : List ℕ) (count : ℕ)
+  pub ends : (s : Session (model world)) → Kept s → (one two before : List ℕ) (count : ℕ)
       (after : List ℕ) → Bytes one → Bytes two
       → MergeLogsSays (world .yard .b) one two before (filled (merged.Count count) after)
       → ((r : Record) → List·Memᴰ r (heldBy (handed world s)) ↔ List·Memᴰ r (records count after))
@@ -144,7 +142,7 @@ module _ (world : World) (opens : Opens world) where
         Iff·trans (exactly most f g (agree-said (k .climbs) (l .climbs) agreed) r)
         (Iff·symm (same r)))
 
-    merged-as : (before : List ℕ) → length before ≡ bufferSize
+    pub merged-as : (before : List ℕ) → length before ≡ bufferSize
         → mergeLeaves before (said (world .yard .b) (length before) (logOf (s .log))
         (logOf (t .log)))
         ≡ filled (merged.Count (length (u .log))) (bufferOf (u .log))
@@ -161,64 +159,3 @@ module _ (world : World) (opens : Opens world) where
         } in
         ap (mergeLeaves before)
         (is-merged _ _ _ _ given (rw (one, two) agreed) (rw all (m .few)) ∙ ap accepted all)
-
--- Of a session as in demand 3: the model's records, what was delivered, and its log.
-module _ {world : World} {first : ℕ} {calls : List Call} {h : Handed}
-    (reached : Reached world first calls h) where
-  abbrev modelOf : Session (model world)
-  modelOf = sessionAfter (model world) first calls
-
-  delivered : (r : Record)
-      → List·Memᴰ r (modelOf .log) ↔ List·Memᴰ r (deliveredBy world (reached .opening) calls)
-  delivered r =
-      let m = modelled reached in
-      let start = kept-opening (lawful world (m .opens)) first in
-      rw (opened-words (reached .opened)) at
-      (Iff·trans (held-after world (m .opens) (opening (model world) first) start calls r)
-      (⊎-elim (λ n. absurd (List·Memᴰ·not-nil n)) (λ n. n), inr))
-
-  held-is : heldBy h ≡ modelOf .log
-  held-is =
-      let m = modelled reached in
-      ap heldBy (sym (m .words)) ∙ same-records world (m .opens) modelOf (m .kept)
-
-  part-is : heldPart h ≡ logOf (modelOf .log)
-  part-is = ap heldPart (sym (modelled reached .words)) ∙ buffer-front (modelOf .log)
-
-pub appeal : (world : World) → Appeal world
-appeal world =
-    record {
-      holds = λ first calls h reached r. rw (held-is reached) (delivered reached r);
-      ends = λ first calls h one two before count after reached b c says.
-          let m = modelled reached in
-          subst
-          (λ x.
-          ((r : Record) → List·Memᴰ r (heldBy x) ↔ List·Memᴰ r (records count after))
-          → EndsAsReplay world x (take (8 * count) after))
-          (m .words)
-          (ends world (m .opens) (modelOf reached) (m .kept) one two before count after b c says);
-      stations = λ first second third calls others both j k h one two all same before out long says.
-          let m = modelled all in
-          let left : out ≡ filled (merged.Count (sessionIn h .held)) (h .log) =
-          says
-          ∙ rw (part-is one, part-is two)
-          (subst
-          (λ x.
-          mergeLeaves before (said (world .yard .b) (length before) (logOf (modelOf one .log))
-          (logOf (modelOf two .log)))
-          ≡ filled (merged.Count (sessionIn x .held)) (x .log))
-          (m .words)
-          (merged-as world (m .opens) (modelOf one) (modelOf two) (modelOf all)
-          (modelled one .kept) (modelled two .kept) (m .kept)
-          (λ r.
-          Iff·trans (delivered all r)
-          (Iff·trans (same r)
-          (both-iff (Iff·symm (delivered one r)) (Iff·symm (delivered two r)))))
-          before long)) in (
-            left,
-            subst (λ x. EndsAsReplay world h (take (8 * sessionIn h .held) x))
-                (ap (λ (x : Filled Merged ℕ). x .out) (sym left))
-                (subst (λ x. EndsAsReplay world x (heldPart x)) (m .words)
-                (demand2 world (m .opens) (modelOf all) (m .kept) .replay)),
-          );
-    }
