@@ -184,7 +184,7 @@ uint32_t wuthracomb_reading(uint64_t reading,
                             const uint8_t *log, size_t log_len,
                             uint64_t *session, size_t session_len);
 
-/* Delivers a record, in any order and any number of times.
+/* Delivers the record in bytes, in any order and any number of times.
 
    TAKEN  the record is now held: put into log, the held count of session one
           more.  If its step t is below the steps made, the state before step t
@@ -203,7 +203,7 @@ uint32_t wuthracomb_reading(uint64_t reading,
      FULL       2,048 records are held;
      FAULT      the row to be brought back isn't a sound state.
 */
-uint32_t wuthracomb_deliver(const uint8_t *record, size_t record_len,
+uint32_t wuthracomb_deliver(const uint8_t *bytes, size_t bytes_len,
                             const uint8_t *cells, size_t cells_len,
                             const int32_t *boxes, size_t boxes_len,
                             int32_t *state, size_t state_len,
@@ -267,7 +267,8 @@ uint32_t wuthracomb_shown(uint32_t carrier,
                           const uint64_t *session, size_t session_len,
                           double *out, size_t out_len);
 
-/* Reads one record: its step, carrier and lever go to out[0], out[1], out[2].
+/* Reads the record in bytes: its step, carrier and lever go to out[0], out[1]
+   and out[2].
 
    Refusals, in order:
      MALFORMED  the record isn't 8 bytes, or one of the last two isn't 0;
@@ -278,7 +279,7 @@ uint32_t wuthracomb_shown(uint32_t carrier,
 
    DONE: out is written, nothing else.
 */
-uint32_t wuthracomb_read_record(const uint8_t *record, size_t record_len,
+uint32_t wuthracomb_read_record(const uint8_t *bytes, size_t bytes_len,
                                 uint32_t *out, size_t out_len);
 
 /* Writes the eight bytes of a record to out.

@@ -223,11 +223,11 @@ pub fn reading(
     }
 }
 
-/// Delivers a record, in any order and any number of times: [`TAKEN`], or [`FAULT`],
+/// Delivers the record in `bytes`, in any order and any number of times: [`TAKEN`], or [`FAULT`],
 /// [`MALFORMED`], [`CARRIER`], [`LEVER`], [`STEP`], then [`HELD`] or [`CONFLICT`], then [`LATE`],
 /// [`FULL`], and last [`FAULT`] for the row to be brought back.
 pub fn deliver(
-    record: &[u8],
+    bytes: &[u8],
     cells: &[u8],
     boxes: &[i32],
     state: &mut [i32],
@@ -237,8 +237,8 @@ pub fn deliver(
 ) -> u32 {
     unsafe {
         raw::wuthracomb_deliver(
-            record.as_ptr(),
-            record.len(),
+            bytes.as_ptr(),
+            bytes.len(),
             cells.as_ptr(),
             cells.len(),
             boxes.as_ptr(),
@@ -350,11 +350,11 @@ pub fn shown(
     }
 }
 
-/// Reads one record, its step, carrier and lever into `out`: [`DONE`], or [`MALFORMED`],
+/// Reads the record in `bytes`, its step, carrier and lever into `out`: [`DONE`], or [`MALFORMED`],
 /// [`CARRIER`], [`LEVER`], [`STEP`], then [`ROOM`] where `out` isn't 3 long.
-pub fn read_record(record: &[u8], out: &mut [u32]) -> u32 {
+pub fn read_record(bytes: &[u8], out: &mut [u32]) -> u32 {
     unsafe {
-        raw::wuthracomb_read_record(record.as_ptr(), record.len(), out.as_mut_ptr(), out.len())
+        raw::wuthracomb_read_record(bytes.as_ptr(), bytes.len(), out.as_mut_ptr(), out.len())
     }
 }
 

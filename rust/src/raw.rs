@@ -43,8 +43,8 @@ extern "C" {
     ) -> u32;
 
     pub fn wuthracomb_deliver(
-        record: *const u8,
-        record_len: usize,
+        bytes: *const u8,
+        bytes_len: usize,
         cells: *const u8,
         cells_len: usize,
         boxes: *const i32,
@@ -110,8 +110,8 @@ extern "C" {
     ) -> u32;
 
     pub fn wuthracomb_read_record(
-        record: *const u8,
-        record_len: usize,
+        bytes: *const u8,
+        bytes_len: usize,
         out: *mut u32,
         out_len: usize,
     ) -> u32;

@@ -11,7 +11,7 @@ use Rattle.basis.specs.LittleEndian.{Bytes}
 use Rattle.basis.specs.Numbers.{mostCarriers}
 use Rattle.basis.specs.Order.{Answer, refused, accepted, isAccepted}
 use Rattle.basis.proofs.Tests.{never}
-use Rattle.record.specs.Held.{bufferSize, bufferOf}
+use Rattle.record.specs.Buffer.{bufferSize, bufferOf}
 use Rattle.record.specs.Log.{records, recordsOf, logOf}
 use Rattle.record.specs.declared.bytes.Record.{Record}
 use Rattle.record.proofs.Buffers.{buffer-front}

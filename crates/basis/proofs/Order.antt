@@ -136,6 +136,35 @@ module _ {A B : Type 0} where
         go (accepted a) e q =
             inr (a, exactly-result order a .0 e, exactly-number _ n .0 (sym (goes-on e) ∙ q))
 
+-- An answer with what it gives put otherwise.
+abbrev pub mapped : {A B : Type 0} → (A → B) → Answer A → Answer B
+mapped f (refused number) = refused number
+mapped f (accepted a) = accepted (f a)
+
+-- Orders with the same tests answer alike.
+module _ {B C : Type 0} (f : B → C) where
+  pub give-alike : (b : B) → answer (give (f b)) ≡ mapped f (answer (give b))
+  unfolding answer
+  give-alike b = refl
+
+  pub check-alike : (t : Bool) (number : ℕ) (rest : Order B) (other : Order C)
+      → answer other ≡ mapped f (answer rest)
+      → answer (check t number other) ≡ mapped f (answer (check t number rest))
+  unfolding answer
+  check-alike true number rest other e = e
+  check-alike false number rest other e = refl
+
+  pub then-alike : {A : Type 0} (first : Order A) (rest : A → Order B) (other : A → Order C)
+      → ((a : A) → answer (other a) ≡ mapped f (answer (rest a)))
+      → answer (andThen first other) ≡ mapped f (answer (andThen first rest))
+  then-alike {A} first rest other alike = go (answer first) refl
+    where
+      go : (a : Answer A) → answer first ≡ a
+          → answer (andThen first other) ≡ mapped f (answer (andThen first rest))
+      go (refused number) q = stops first other q ∙ sym (ap (mapped f) (stops first rest q))
+      go (accepted a) q =
+          goes-on first other q ∙ alike a ∙ sym (ap (mapped f) (goes-on first rest q))
+
 -- A contract that says what an outcome tells allows one, where no two outcomes tell the same.
 pub one-outcome : {O C : Type 0} {tells : O → C} → ((a b : O) → tells a ≡ tells b → a ≡ b)
     → {this : C} → Determines (λ out. tells out ≡ this)

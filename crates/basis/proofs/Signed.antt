@@ -69,7 +69,8 @@ pub lt-add : (a : ℤ) (n : ℕ) → a <ℤ (a +ℤ pos (suc n))
 lt-add (pos k) n = record { lt = lt→ltb k (k + suc n) (omega arith) }
 lt-add (negsuc k) n =
     of-cond (λ z. negsuc k <ℤ z) (ltb (suc n) (suc k))
-    (λ e. record { lt = lt→ltb (suc k - suc (suc n)) k (omega (arith, ltb-true (suc n) (suc k) e)) })
+    (λ e.
+    record { lt = lt→ltb (suc k - suc (suc n)) k (omega (arith, ltb-true (suc n) (suc k) e)) })
     (λ e. record { lt = tt })
 
 pub le-gap : (a b : ℤ) → a ≤ℤ b → (n : ℕ) × (b -ℤ a ≡ pos n)

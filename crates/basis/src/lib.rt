@@ -1,6 +1,6 @@
-// What every crate shares: the numbers of document 01's table and those that document 02 adds, and
-// the limits that more than one crate keeps. A limit of one crate alone is an associated constant of
-// that crate's own type.
+// What every crate shares: the numbers of document 01's table and those that document 02 adds, the
+// limits that more than one crate keeps, and the lever held at a place. A limit of one crate alone
+// is an associated constant of that crate's own type.
 
 // 'Numbers given back', by name.
 pub struct Number {}
@@ -53,4 +53,10 @@ impl Limit {
     pub const LEVER: u8 = 9;
     // 'at most 2,048'; rules 8 and 13.
     pub const RECORDS: usize = 2_048;
+}
+
+// The lever held at a place, if any.
+pub enum HeldLever {
+    Nothing,
+    Lever(u8),
 }

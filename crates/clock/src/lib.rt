@@ -1,6 +1,10 @@
 // The clock: readings in, steps due out. Document 01, 'The clock'.
 ghost use mathlib.Core.Path.{_≡_};
-ghost use Rattle.clock.specs.Clock.{used};
+ghost use mathlib.Core.Bool.{true};
+ghost use Rattle.basis.specs.Numbers.{stepLength};
+ghost use Rattle.basis.specs.Order.{answer};
+ghost use Rattle.clock.specs.Clock.{soundClock, used};
+ghost use Rattle.clock.specs.Reading.{clockAnswer, clockOrder};
 ghost use Rattle.clock.specs.Says.{NewSays, IsSoundSays, ReadSays};
 use basis::Limit;
 use basis::Number;
@@ -71,13 +75,11 @@ impl Clock {
         counted <= passed && passed - counted == self.cut
     }
 
-    // 14, 11, 12, or the clock after this reading with the number of steps due.
-    pub fn read(self, reading: u64) -> Reading
-        ensures read { λ r. ⌜ ReadSays self reading r ⌝ }
+    // 11, 12, or the clock after this reading with the number of steps due; of a sound clock.
+    pub fn tick(self, reading: u64) -> Reading
+        requires sound { ⌜ soundClock stepLength self ≡ true ⌝ }
+        ensures ticked { λ r. ⌜ clockAnswer r ≡ answer (clockOrder stepLength self reading) ⌝ }
     {
-        if !self.is_sound() {
-            return Reading::Refused(Number::FAULT);
-        }
         if reading < self.last {
             return Reading::Refused(Number::BACKWARD);
         }
@@ -97,5 +99,15 @@ impl Clock {
             steps,
         };
         Reading::Accepted { clock, due }
+    }
+
+    // 14, 11, 12, or the clock after this reading with the number of steps due.
+    pub fn read(self, reading: u64) -> Reading
+        ensures read { λ r. ⌜ ReadSays self reading r ⌝ }
+    {
+        if !self.is_sound() {
+            return Reading::Refused(Number::FAULT);
+        }
+        self.tick(reading)
     }
 }

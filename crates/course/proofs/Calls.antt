@@ -7,7 +7,7 @@ use mathlib.Core.Option.{Option, some}
 use Rattle.basis.specs.Order.{Answer, refused, accepted, answer}
 use Rattle.basis.proofs.Order.{gives, apart, stops, goes-on}
 use Rattle.record.specs.Bytes.{recordOf, readOrder}
-use Rattle.record.specs.Held.{leverAt}
+use Rattle.record.specs.Buffer.{leverAt}
 use Rattle.record.specs.declared.bytes.Record.{Record}
 use Rattle.record.proofs.OneRecord.{Within, reads}
 use Rattle.record.proofs.Placing.{ByRow, Placed, same, other, late, full, broken, takes}

@@ -4,7 +4,7 @@ use native.Mathlib.Omega.{arith}
 use Rattle.basis.specs.Order.{answer, andThen}
 use Rattle.record.specs.Bytes.{recordOf, bytesOf, wellFormed, limitsOrder, readOrder}
 use Rattle.record.specs.Log.{precedes}
-use Rattle.record.specs.Held.{leverAt, putIn}
+use Rattle.record.specs.Buffer.{leverAt, putIn}
 use Rattle.clock.specs.Clock.{due, ticked, soundClock}
 use Rattle.clock.specs.Reading.{clockOrder}
 use Rattle.course.specs.World.{Lawful, after}

@@ -13,7 +13,7 @@ use Rattle.basis.specs.Order.{Answer, refused, accepted, check, give, answer, F
 use Rattle.basis.proofs.Order.{apart, exactly-number}
 use Rattle.basis.proofs.Tests.{never}
 use Rattle.record.specs.Bytes.{limitsOrder, readOrder}
-use Rattle.record.specs.Held.{putIn}
+use Rattle.record.specs.Buffer.{putIn}
 use Rattle.record.specs.declared.bytes.Record.{Record}
 use Rattle.record.proofs.OneRecord.{Within}
 use Rattle.record.proofs.Climbs.{Climbs, done}

@@ -9,7 +9,7 @@ use lib.Dec.{ltb, eqb}
 use borrow.Author.Tests.{le-ltb, ltb-false, eq-eqb, ne-eqb, eqb-true}
 use Rattle.basis.proofs.Tests.{never, and-left, and-right}
 use Rattle.record.specs.Log.{precedes}
-use Rattle.record.specs.Held.{leverAt, putIn}
+use Rattle.record.specs.Buffer.{leverAt, putIn}
 use Rattle.record.specs.Part.{earlier}
 use Rattle.record.specs.declared.bytes.Record.{Record}
 

@@ -6,7 +6,7 @@ use mathlib.Core.List.{List, List·Memᴰ}
 use mathlib.Core.Option.{Option, none, some}
 use native.Mathlib.Omega.{arith}
 use Rattle.record.specs.Log.{place}
-use Rattle.record.specs.Held.{leverAt}
+use Rattle.record.specs.Buffer.{leverAt}
 use Rattle.record.specs.declared.bytes.Record.{Record}
 use Rattle.record.proofs.Climbs.{Climbs}
 use Rattle.record.proofs.Levers.{leverBy, lever-by, one-by}

@@ -11,7 +11,7 @@ use Rattle.basis.specs.Numbers.{rowCount}
 use Rattle.record.specs.declared.bytes.Record.{Record}
 use Rattle.course.specs.World.{leversOf, after, rowsAfter}
 use Rattle.course.specs.Session.{Made, oneStep, steps, rowOf}
-use Rattle.course.specs.Words.{WordWorld, worldOf, Sized, Wide, done, more, Fits}
+use Rattle.course.specs.Words.{WordWorld, worldOfWords, Sized, Wide, done, more, Fits}
 use Rattle.course.proofs.Rows.{madeAfter}
 
 next-row : (i width : ℕ) → suc i * width ≡ width + i * width
@@ -89,7 +89,7 @@ module _ {A : Type 0} (width : ℕ) where
       (replicate-append-replicate width (n * width) word)
 
 -- The same of what steps have made, where it fits.
-module _ {A : Type 0} {words : WordWorld A} {made : Made (worldOf words)}
+module _ {A : Type 0} {words : WordWorld A} {made : Made (worldOfWords words)}
     (fits : Fits words made) where
   pub flat-length : length (flatten (made .rows)) ≡ rowCount * words .width
   flat-length = length-flatten (fits .rows) ∙ rw (fits .many)
@@ -107,7 +107,7 @@ module _ {A : Type 0} {words : WordWorld A} {made : Made (worldOf words)}
 
 -- Steps keep the width.
 module _ {A : Type 0} {words : WordWorld A} (sized : Sized words) where
-  pub fits-step : {made : Made (worldOf words)} (log : List Record) (t : ℕ) → Fits words made
+  pub fits-step : {made : Made (worldOfWords words)} (log : List Record) (t : ℕ) → Fits words made
       → Fits words (oneStep log t made)
   fits-step {made} log t fits =
       record {
@@ -116,13 +116,13 @@ module _ {A : Type 0} {words : WordWorld A} (sized : Sized words) where
         many = length-set (made .rows) (t % rowCount) (made .state) ∙ fits .many;
       }
 
-  pub fits-steps : {made : Made (worldOf words)} (log : List Record) (t k : ℕ) → Fits words made
-      → Fits words (steps log t k made)
+  pub fits-steps : {made : Made (worldOfWords words)} (log : List Record) (t k : ℕ)
+      → Fits words made → Fits words (steps log t k made)
   unfolding steps
   fits-steps log t zero fits = fits
   fits-steps log t (suc k) fits = fits-step log (t + k) (fits-steps log t k fits)
 
-  pub fits-after : (n : ℕ) (log : List Record) → Fits words (madeAfter (worldOf words) n log)
+  pub fits-after : (n : ℕ) (log : List Record) → Fits words (madeAfter (worldOfWords words) n log)
   unfolding after rowsAfter
   fits-after zero log =
       record {

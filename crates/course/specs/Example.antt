@@ -14,7 +14,7 @@ use Rattle.course.specs.World.{World, Lawful, after}
 use Rattle.course.specs.Session.{Session}
 use Rattle.course.specs.Calls.{Call, reading, delivery, taken, held}
 use Rattle.course.specs.Calls.{answerTo, next, sessionAfter}
-use Rattle.course.specs.Words.{WordWorld, worldOf, Sized}
+use Rattle.course.specs.Words.{WordWorld, worldOfWords, Sized}
 
 -- A word counts its steps; a lever given in a step is added in place of 1.
 abbrev pub counted : Option ℕ → ℕ → ℕ
@@ -37,7 +37,7 @@ counting =
 
 -- The same as a world.
 abbrev pub world : World
-world = worldOf counting
+world = worldOfWords counting
 
 -- The delivery of a record.
 abbrev pub sent : ℕ → ℕ → ℕ → Call

@@ -24,7 +24,7 @@ use Rattle.course.specs.Session.{Session, Made, opening, oneStep, rowOf}
 use Rattle.course.specs.Calls.{Call, reading, delivery, read, taken, held}
 use Rattle.course.specs.Calls.{readOn, takeIn, answerTo, next, run, sessionAfter, Reached}
 use Rattle.course.specs.Calls.{readingsOf, foundIn, Holds}
-use Rattle.course.specs.Words.{WordWorld, worldOf, Sized, Fits}
+use Rattle.course.specs.Words.{WordWorld, worldOfWords, Sized, Fits}
 
 -- Demand 2, of a session as in demand 3.
 pub record Demand2 {world : World} (s : Session world) : Type 0 where
@@ -160,7 +160,7 @@ pub record ExactlyWhen {world : World} (s : Session world) : Type 0 where
   pub refusal : (call : Call) (number : ℕ) → answerTo s call ≡ refused number → next s call ≡ s
 
 -- The saved rows laid end to end: 'The saved rows are 64 states, 320·B words'
-pub record FlatRows {A : Type 0} (words : WordWorld A) (made : Made (worldOf words))
+pub record FlatRows {A : Type 0} (words : WordWorld A) (made : Made (worldOfWords words))
     : Type 0 where
   -- '320·B words'
   pub long : length (flatten (made .rows)) ≡ rowCount * words .width
@@ -183,11 +183,11 @@ pub record OnEveryWorld : Type 1 where
   pub reach : (world : World) → Lawful world → Reach world
   pub exactlyWhen : (world : World) → Lawful world → (s : Session world) → Reached s → ExactlyWhen s
   -- Of words: what a session as in demand 3 has made fits; where it fits, the rows lie so.
-  pub fits : {A : Type 0} (words : WordWorld A) → Lawful (worldOf words) → Sized words
-      → (s : Session (worldOf words)) → Reached s → Fits words (s .made)
-  pub flatRows : {A : Type 0} (words : WordWorld A) (made : Made (worldOf words)) → Fits words made
-      → FlatRows words made
+  pub fits : {A : Type 0} (words : WordWorld A) → Lawful (worldOfWords words) → Sized words
+      → (s : Session (worldOfWords words)) → Reached s → Fits words (s .made)
+  pub flatRows : {A : Type 0} (words : WordWorld A) (made : Made (worldOfWords words))
+      → Fits words made → FlatRows words made
   -- 'Opening fills rows .. with zeros.'
   pub opened : {A : Type 0} (words : WordWorld A) (first : ℕ)
-      → flatten (opening (worldOf words) first .made .rows)
+      → flatten (opening (worldOfWords words) first .made .rows)
       ≡ replicate (rowCount * words .width) (words .zero)

@@ -22,8 +22,8 @@ pub record WordWorld (A : Type 0) : Type 0 where
   pub good : List A → Bool
 
 -- The same as a world.
-abbrev pub worldOf : {A : Type 0} → WordWorld A → World
-worldOf {A} words =
+abbrev pub worldOfWords : {A : Type 0} → WordWorld A → World
+worldOfWords {A} words =
     record {
       State = List A;
       carriers = words .carriers;
@@ -47,7 +47,7 @@ pub data Wide {A : Type 0} (width : ℕ) : List (List A) → Type 0 where
       → Wide width (row ∷ rows)
 
 -- The state and the 64 rows have the width.
-pub record Fits {A : Type 0} (words : WordWorld A) (made : Made (worldOf words)) : Type 0 where
+pub record Fits {A : Type 0} (words : WordWorld A) (made : Made (worldOfWords words)) : Type 0 where
   pub state : length (made .state) ≡ words .width
   pub rows : Wide (words .width) (made .rows)
   pub many : length (made .rows) ≡ rowCount

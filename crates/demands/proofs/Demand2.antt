@@ -12,7 +12,7 @@ use lib.ListN.{length, take, replicate}
 use Rattle.basis.specs.Numbers.{stepLength}
 use Rattle.basis.specs.Order.{accepted, answer, andThen}
 use Rattle.basis.proofs.Order.{passes, gives}
-use Rattle.record.specs.Held.{bufferOf}
+use Rattle.record.specs.Buffer.{bufferOf}
 use Rattle.record.specs.declared.bytes.Record.{Record}
 use Rattle.record.proofs.Climbs.{ascends}
 use Rattle.record.proofs.Logs.{recordsOf-log, log-sound}

@@ -8,10 +8,10 @@ use lib.Dec.{eqb}
 use borrow.Author.Tests.{eq-eqb}
 use Rattle.basis.specs.Numbers.{TAKEN}
 use Rattle.basis.specs.Order.{Answer, refused, accepted, answer}
-use Rattle.basis.proofs.Order.{apart}
+use Rattle.basis.proofs.Order.{apart, mapped}
 use Rattle.basis.proofs.Tests.{never}
 use Rattle.record.specs.Bytes.{recordOf}
-use Rattle.record.specs.Held.{bufferOf}
+use Rattle.record.specs.Buffer.{bufferOf}
 use Rattle.record.specs.declared.bytes.Record.{Record}
 use Rattle.fleet.specs.State.{World}
 use Rattle.course.specs.Session.{Session}
@@ -29,7 +29,7 @@ use Rattle.demands.specs.Handed.{Handed, lentIn, deliveryAnswer, next, a
 use Rattle.demands.specs.Handed.{heldBy}
 use Rattle.demands.specs.Statements.{Taken, Same, Demand3}
 use Rattle.demands.proofs.Model.{Opens, model, lawful}
-use Rattle.demands.proofs.Ties.{handed, mapped, asDelivered, same-delivery, same-records}
+use Rattle.demands.proofs.Ties.{handed, asDelivered, same-delivery, same-records}
 use Rattle.demands.proofs.Sessions.{same-run, same-next, Modelled, modelled}
 use Rattle.demands.proofs.Demand2.{demand2, digests}
 

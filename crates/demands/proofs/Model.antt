@@ -10,17 +10,18 @@ use lib.Dec.{eqb}
 use lib.IntN.{ℤ, pos}
 use lib.ListN.{length}
 use Rattle.basis.specs.Numbers.{stepLength, mostLever}
+use Rattle.basis.specs.HeldLever.{heldOf}
 use Rattle.basis.proofs.Tests.{and-left, and-right, and-both}
 use Rattle.yard.specs.Step.{LeverFits}
 use Rattle.yard.specs.Rule9.{rangesHold, cellsHold, sizesHold, startsHold}
 use Rattle.fleet.specs.State.{World, stateWords, soundState, startState}
-use Rattle.fleet.specs.Step.{heldOf, stepAll}
+use Rattle.fleet.specs.Step.{stepAll}
 use Rattle.fleet.specs.Fits.{StateFits}
 use Rattle.fleet.proofs.Steps.{length-all}
 use Rattle.fleet.proofs.Carriers.{all-keeps}
 use Rattle.course.specs.World.{Lawful}
 use Rattle.course.specs.World as course
-use Rattle.course.specs.Words.{WordWorld, worldOf, Sized}
+use Rattle.course.specs.Words.{WordWorld, worldOfWords, Sized}
 use Rattle.session.proofs.Room.{carriers-most}
 use Rattle.fleet.proofs.Starts.{start-fits}
 
@@ -50,7 +51,7 @@ words world =
     }
 
 abbrev pub model : World → course.World
-model world = worldOf (words world)
+model world = worldOfWords (words world)
 
 pub fitting-fits : (world : World) (state : List ℤ) → fitting world state ≡ true
     → StateFits world state

@@ -5,9 +5,11 @@ use mathlib.Core.List.{List, [], _∷_, flatten}
 use native.Mathlib.Omega.{arith}
 use lib.IntN.{pos}
 use lib.ListN.{replicate}
+use Rattle.basis.specs.Numbers.{rowCount}
 use Rattle.basis.specs.Order.{Answer, refused, accepted}
-use Rattle.record.specs.Held.{bufferOf}
-use Rattle.fleet.specs.State.{World}
+use Rattle.basis.proofs.Order.{mapped}
+use Rattle.record.specs.Buffer.{bufferOf}
+use Rattle.fleet.specs.State.{World, stateWords}
 use Rattle.course.specs.Session.{Session, opening}
 use Rattle.course.specs.Calls.{Call, reading, delivery, Outcome, read, taken, held as outcomeHeld}
 use Rattle.course.specs.Calls.{answerTo, left, next as modelNext, run as modelRun, sessionAfter}
@@ -20,7 +22,7 @@ use Rattle.session.proofs.Openings.{opened-says}
 use Rattle.demands.specs.Handed.{Handed, handsOn, next, afterCalls}
 use Rattle.demands.specs.Handed.{Opened, Reached}
 use Rattle.demands.proofs.Model.{Opens, model, lawful}
-use Rattle.demands.proofs.Ties.{handed, mapped, asRead, asDelivered}
+use Rattle.demands.proofs.Ties.{handed, asRead, asDelivered}
 use Rattle.demands.proofs.Ties.{same-reading, same-delivery}
 
 module _ (world : World) (opens : Opens world) where
@@ -78,11 +80,8 @@ module _ {world : World} {first : ℕ} {h : Handed} (o : Opened world first h) w
   pub opened-words : handed world (opening (model world) first) ≡ h
   unfolding bufferOf
   opened-words =
-      let rows : flatten (replicate 64 (replicate (5 * world .yard .b) (pos 0)))
-      ≡ replicate (320 * world .yard .b) (pos 0) =
-      let all : 64 * (5 * world .yard .b) ≡ 320 * world .yard .b = omega arith in
-      flatten-replicate (5 * world .yard .b) 64 (pos 0) ∙ rw all in
-      rw rows (opened-says _ first lentThen (o .accepts) .1)
+      rw (flatten-replicate (stateWords world) rowCount (pos 0))
+      (opened-says _ first lentThen (o .accepts) .1)
 
 -- The session of the model that has the words of this one.
 pub record Modelled (world : World) (first : ℕ) (calls : List Call) (h : Handed) : Type 0 where

@@ -11,13 +11,13 @@ use borrow.Author.Tests.{eq-eqb}
 use lib.Dec.{ltb}
 use lib.ListN.{length, drop, length-drop}
 use lib.Seq.{length-take-le}
-use Rattle.basis.specs.Numbers.{CONFLICT, FULL, LATE, FAULT}
-use Rattle.basis.specs.Order.{Answer, refused, accepted, Order, check, give, answer, andThen}
-use Rattle.basis.proofs.Order.{passes, stops, goes-on, apart}
+use Rattle.basis.specs.Order.{Answer, refused, accepted, give, answer}
+use Rattle.basis.proofs.Order.{passes, apart, mapped, then-alike}
 use Rattle.record.specs.Bytes.{readOrder}
-use Rattle.record.specs.Held.{bufferOf, putIn}
-use Rattle.record.specs.Place.{Found, byLever, byPlace}
+use Rattle.record.specs.Buffer.{bufferOf, putIn}
+use Rattle.record.specs.Place.{byPlace}
 use Rattle.record.specs.declared.bytes.Record.{Record}
+use Rattle.record.proofs.Placing.{place-alike}
 use Rattle.record.proofs.Climbs.{ascends}
 use Rattle.record.proofs.Insertion.{length-putIn, length-buffer}
 use Rattle.record.proofs.Buffers.{buffer-sound, buffer-records}
@@ -38,8 +38,9 @@ use Rattle.session.specs.Lent.{heldIn}
 use Rattle.session.specs.Lent as Lent
 use Rattle.session.specs.Sound.{worldRoom, room, sound}
 use Rattle.session.specs.Calls.{Delivery, readOn as readWords, takeIn as takeWords}
-use Rattle.session.specs.Calls.{foundIn as foundWords, placeOrder as placeWords, unchanged}
+use Rattle.session.specs.Calls.{foundIn as foundWords, unchanged}
 use Rattle.session.specs.Calls.{readingOrder, deliverOrder, taken as tookWords}
+use Rattle.session.proofs.Deliveries.{placeOrder as placeWords}
 use Rattle.demands.specs.Handed.{Handed, lentIn}
 use Rattle.demands.proofs.Model.{Opens, words, model, fitting, fitting-fits, sized, lawful}
 
@@ -101,8 +102,7 @@ module _ (world : World) (opens : Opens world) (s : Session (model world)) (k : 
         eq-eqb _ _ (opens .laid),
         eq-eqb _ _ (opens .room),
         eq-eqb _ _ (fits .state),
-        eq-eqb (length (flatten (s .made .rows))) (320 * world .yard .b)
-            (omega (arith, flat-length fits)),
+        eq-eqb _ _ (flat-length fits),
         eq-eqb _ _ (length-buffer (s .log) (k .few)),
         opens .cells,
         opens .sizes,
@@ -114,11 +114,6 @@ module _ (world : World) (opens : Opens world) (s : Session (model world)) (k : 
       good-state : fitting world (s .made .state) ≡ true
       good-state = rw (k .made) (good-after (lawful world opens) (s .clock .steps) (k .within))
 
--- An answer with what it gives put otherwise.
-abbrev pub mapped : {A B : Type 0} → (A → B) → Answer A → Answer B
-mapped f (refused number) = refused number
-mapped f (accepted a) = accepted (f a)
-
 -- A refusal stays one, and was one.
 pub same-refusal : {A B : Type 0} (f : A → B) (a : Answer A) {n : ℕ} → mapped f a ≡ refused n
     → a ≡ refused n
@@ -126,44 +121,6 @@ same-refusal f (refused m) {n} e =
     let same : m ≡ n = cc in
     ap refused same
 same-refusal f (accepted a) e = apart (sym e)
-
--- A sound session is answered by the first part of the order, or where it gives something, by the
--- rest.
-goes-alike : {A B C : Type 0} (f : B → C) {ok : Bool} (first : Order A) (rest : A → Order B)
-    (other : A → Order C) → ok ≡ true
-    → ((a : A) → answer (other a) ≡ mapped f (answer (rest a)))
-    → answer (check ok FAULT (andThen first other)) ≡ mapped f (answer (andThen first rest))
-goes-alike {A} f first rest other e alike = passes _ _ e ∙ go (answer first) refl
-  where
-    go : (a : Answer A) → answer first ≡ a
-        → answer (andThen first other) ≡ mapped f (answer (andThen first rest))
-    go (refused number) q = stops first other q ∙ sym (ap (mapped f) (stops first rest q))
-    go (accepted a) q = goes-on first other q ∙ alike a ∙ sym (ap (mapped f) (goes-on first rest q))
-
-given : {B C : Type 0} (f : B → C) (b : B) → answer (give (f b)) ≡ mapped f (answer (give b))
-unfolding answer
-given f b = refl
-
--- A test that both orders ask.
-same-check : {B C : Type 0} (f : B → C) (t : Bool) (number : ℕ) (rest : Order B) (other : Order C)
-    → answer other ≡ mapped f (answer rest)
-    → answer (check t number other) ≡ mapped f (answer (check t number rest))
-unfolding answer
-same-check f true number rest other e = e
-same-check f false number rest other e = refl
-
--- A record's place asks the same of both.
-place-alike : {B C : Type 0} (f : B → C) (r : Record) (found : Found) (same new : B)
-    → answer (byPlace r found (f same) (f new)) ≡ mapped f (answer (byPlace r found same new))
-place-alike f r found same new = go (found .lever)
-  where
-    go : (lever : Option ℕ)
-        → answer (byLever r found (f same) (f new) lever)
-        ≡ mapped f (answer (byLever r found same new lever))
-    go (some lever) = same-check f _ CONFLICT (give same) _ (given f same)
-    go none =
-        same-check f _ LATE _ _
-        (same-check f _ FULL _ _ (same-check f _ FAULT (give new) _ (given f new)))
 
 module _ (world : World) (opens : Opens world) (s : Session (model world)) (k : Kept s) where
   -- A reading in the words, and in the model.
@@ -255,7 +212,8 @@ module _ (world : World) (opens : Opens world) (s : Session (model world)) (k : 
       ≡ mapped asRead (answerTo s (reading t))
   unfolding readingOrder orderOf answer
   same-reading t =
-      goes-alike asRead _ (λ given. give (read (readOn s given))) _ (words-sound world opens s k)
+      passes _ _ (words-sound world opens s k)
+      ∙ then-alike asRead _ (λ given. give (read (readOn s given))) _
       (λ given. ap accepted (same-read given))
 
   same-place : (r : Record)
@@ -274,5 +232,5 @@ module _ (world : World) (opens : Opens world) (s : Session (model world)) (k : 
       ≡ mapped asDelivered (answerTo s (delivery bytes))
   unfolding deliverOrder orderOf
   same-delivery bytes =
-      goes-alike asDelivered (readOrder (world .yard .b) bytes) (λ r. placeOrder s r) _
-      (words-sound world opens s k) same-place
+      passes _ _ (words-sound world opens s k)
+      ∙ then-alike asDelivered (readOrder (world .yard .b) bytes) (λ r. placeOrder s r) _ same-place

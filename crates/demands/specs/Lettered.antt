@@ -5,14 +5,14 @@ use mathlib.Core.List.{List, [], _∷_}
 use lib.IntN.{ℤ, pos}
 use Rattle.basis.specs.Numbers.{mostCarriers, stepLength}
 use Rattle.basis.specs.Order.{Answer, accepted, answer}
+use Rattle.basis.specs.declared.HeldLever.{HeldLever}
+use Rattle.basis.specs.declared.HeldLever.the-variants.{Nothing, Lever}
 use Rattle.record.specs.Bytes.{bytesOf, readOrder, writeOrder}
 use Rattle.record.specs.declared.bytes.Record.{Record}
 use Rattle.clock.specs.Reading.{Given, clockOrder}
 use Rattle.clock.specs.Examples.{clockAt}
 use Rattle.yard.specs.declared.world.Yard.{Yard}
 use Rattle.yard.specs.declared.carrier.Carrier.{Carrier}
-use Rattle.yard.specs.declared.carrier.Held.{Held}
-use Rattle.yard.specs.declared.carrier.Held.the-variants.{Nothing, Lever}
 use Rattle.yard.specs.declared.levers.Axis.the-variants.{X}
 use Rattle.yard.specs.Ranges.{minus}
 use Rattle.yard.specs.Levers.{newSpeed}
@@ -31,15 +31,15 @@ makes last steps remainder cut =
     accepted (record { clock = clockAt last steps remainder cut; due = steps })
 
 -- One step of a carrier 256 by 256 in a yard with these cells.
-abbrev pub stepIn : Yard → List ℕ → Held → Carrier → Carrier
+abbrev pub stepIn : Yard → List ℕ → HeldLever → Carrier → Carrier
 stepIn yard cells = step (free yard cells (record { w = 256; h = 256 }))
 
 -- One step in the practice yard.
-abbrev pub inPractice : Held → Carrier → Carrier
+abbrev pub inPractice : HeldLever → Carrier → Carrier
 inPractice = stepIn (practice .yard) (practice .cells)
 
 -- One step in the '3 by 3 yard, wall only at column 2, row 2', row by row.
-abbrev pub inCorner : Held → Carrier → Carrier
+abbrev pub inCorner : HeldLever → Carrier → Carrier
 inCorner =
     stepIn (record { w = 3; h = 3; b = 1 })
     (0 ∷ 0 ∷ 0

@@ -6,7 +6,7 @@ use mathlib.Core.List.{List, [], _∷_}
 use lib.ListN.{length}
 use Rattle.basis.specs.LittleEndian.{Bytes}
 use Rattle.basis.specs.Order.{Answer, refused, accepted}
-use Rattle.record.specs.Held.{bufferOf}
+use Rattle.record.specs.Buffer.{bufferOf}
 use Rattle.record.specs.declared.bytes.Record.{Record}
 use Rattle.record.proofs.Rules.{log-valid}
 use Rattle.merge.specs.Calls.{mergeOrder}

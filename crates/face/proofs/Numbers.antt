@@ -10,12 +10,13 @@ use borrow.Author.Tests.{eqb-true, eqb-false}
 use lib.Dec.{lit≤, leb, eqb}
 use lib.IntN.{ℤ}
 use lib.ListN.{length}
+use Rattle.basis.specs.Filled.{Filled, filled}
 use Rattle.basis.specs.LittleEndian.{Bytes}
 use Rattle.basis.specs.Order.{Answer, refused, accepted, Order, answer, andThen}
 use Rattle.basis.proofs.Tests.{never, says-eq, says-two, says-three}
 use Rattle.record.specs.Bytes.{recordOf, wellFormed, readOrder, writeOrder, limitsOrder}
 use Rattle.record.specs.Facts.{Formed, LogValid}
-use Rattle.record.specs.Held.{leverAt}
+use Rattle.record.specs.Buffer.{leverAt}
 use Rattle.record.specs.Log.{soundLog}
 use Rattle.record.specs.Place.{byLever, rowServes}
 use Rattle.record.specs.declared.bytes.Record.{Record}
@@ -32,10 +33,11 @@ use Rattle.fleet.specs.State.{soundState}
 use Rattle.fleet.proofs.Carriers.{state-sound}
 use Rattle.session.specs.Calls.{worldOrder, openOrder, readingOrder, deliverOrder, replayOrder}
 use Rattle.session.specs.Calls.{digestOrder, shownOrder, opened, readOn, Delivery, takeIn}
-use Rattle.session.specs.Calls.{unchanged, foundIn, placeOrder, rowIn, previous}
+use Rattle.session.specs.Calls.{unchanged, foundIn, rowIn, previous}
 use Rattle.session.specs.Facts.{Sound, HeldHere, NoneHere, RowSound}
-use Rattle.session.specs.Lent.{Lent, Made, Filled, filled, heldIn, worldIn}
+use Rattle.session.specs.Lent.{Lent, Made, heldIn, worldIn}
 use Rattle.session.specs.declared.Session.{Session}
+use Rattle.session.proofs.Deliveries.{placeOrder}
 use Rattle.session.proofs.Facts.{lengths-fit, room-fits, sound-means}
 use Rattle.session.proofs.Good.{good}
 use Rattle.station.specs.Face.{openFace, readingFace, deliverFace, digestFace, shownFace, shows}

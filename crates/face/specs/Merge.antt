@@ -1,12 +1,12 @@
--- Document 02, §9, 'Two stations, one log', of `wuthracomb_merge`. A fact compares numbers or lengths,
--- or is one of the facts of `record` and `merge`.
+-- Document 02, §9, 'Two stations, one log', of `wuthracomb_merge`. A fact compares numbers or
+-- lengths, or is one of the facts of `record` and `merge`.
 use Prim.Native.Nat.{ℕ, _<_}
 use mathlib.Core.Logic.{_≢_}
 use mathlib.Core.List.{List, [], _∷_}
 use lib.ListN.{length}
 use Rattle.basis.specs.LittleEndian.{Bytes}
 use Rattle.record.specs.Facts.{LogValid}
-use Rattle.record.specs.Held.{bufferOf}
+use Rattle.record.specs.Buffer.{bufferOf}
 use Rattle.merge.specs.Facts.{Few, Differ}
 use Rattle.merge.specs.Merge.{bothOf}
 use Rattle.station.specs.Left.{Counted, counted}

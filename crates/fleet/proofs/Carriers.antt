@@ -10,31 +10,34 @@ use lib.IntN.{ℤ, pos}
 use lib.ListN.{length}
 use lib.Dec.{eqb, ltb}
 use borrow.Author.Tests.{eqb-true, eqb-false, ltb-true, ltb-false}
+use Rattle.basis.specs.declared.HeldLever.{HeldLever}
+use Rattle.basis.specs.HeldLever.{heldOf}
 use Rattle.basis.proofs.Lists.{paste-at, paste-before, paste-after}
-use Rattle.record.specs.Held.{leverAt}
+use Rattle.record.specs.Buffer.{leverAt}
 use Rattle.record.specs.declared.bytes.Record.{Record}
 use Rattle.record.proofs.Logs.{AllWithin, done, more}
 use Rattle.yard.specs.declared.carrier.Carrier.{Carrier}
-use Rattle.yard.specs.declared.carrier.Held.{Held}
-use Rattle.yard.specs.World.{sizeOf}
+use Rattle.yard.specs.Boxes.{sizeOf}
 use Rattle.yard.specs.Free.{free}
 use Rattle.yard.specs.Step.{LeverFits, step, soundCarrier}
 use Rattle.yard.proofs.Every.{all-pass, passes, each as each-says}
 use Rattle.yard.proofs.Squares.{free-at}
 use Rattle.yard.proofs.Soundness.{good-of, of-good, rule, step-sound}
-use Rattle.fleet.specs.State.{World, carrier, wordsOf, put, freeFor, soundState}
-use Rattle.fleet.specs.Step.{stepOne, stepTo, stepAll, stepAt, heldOf}
+use Rattle.fleet.specs.State.{World, carrierWords, carrier, wordsOf, put, freeFor, soundState}
+use Rattle.fleet.specs.Step.{stepOne, stepTo, stepAll, stepAt}
 use Rattle.fleet.specs.Facts.{CarrierSound, StateSound}
 use Rattle.fleet.specs.Fits.{StateFits}
 use Rattle.fleet.specs.Statements.{EachFree}
 use Rattle.fleet.proofs.Words.{same-words, carrier-is, length-put}
 
-module _ (i : ℕ) (c : Carrier) (state : List ℤ) (room : 5 * i + 5 ≤ length state) where
+module _ (i : ℕ) (c : Carrier) (state : List ℤ)
+    (room : carrierWords * i + carrierWords ≤ length state) where
   pub carrier-put : carrier i (put i c state) ≡ c
   unfolding put wordsOf
   carrier-put =
       carrier-is i c (put i c state)
-      (λ j h. paste-at state (5 * i) (wordsOf c) 5 (pos 0) room (omega arith) j h)
+      (λ j h.
+      paste-at state (carrierWords * i) (wordsOf c) carrierWords (pos 0) room (omega arith) j h)
 
   pub carrier-other : (k : ℕ) → i ≢ k → carrier k (put i c state) ≡ carrier k state
   unfolding put wordsOf
@@ -45,14 +48,14 @@ module _ (i : ℕ) (c : Carrier) (state : List ℤ) (room : 5 * i + 5 ≤ length
           let h : k < i = ltb-true k i e in
           same-words k k (put i c state) state
           (λ j l.
-          paste-before state (5 * i) (wordsOf c) 5 (pos 0) room (omega arith) (5 * k + j)
-          (omega arith))
+          paste-before state (carrierWords * i) (wordsOf c) carrierWords (pos 0) room (omega arith)
+          (carrierWords * k + j) (omega arith))
       go false e =
           let h : i < k = omega (arith, d, ltb-false k i e) in
           same-words k k (put i c state) state
           (λ j l.
-          paste-after state (5 * i) (wordsOf c) 5 (pos 0) room (omega arith) (5 * k + j)
-          (omega arith))
+          paste-after state (carrierWords * i) (wordsOf c) carrierWords (pos 0) room (omega arith)
+          (carrierWords * k + j) (omega arith))
 
 pub free-as-yard : (world : World) (i : ℕ) (state : List ℤ) (x y : ℤ)
     → freeFor world i state x y ≡ free (world .yard) (world .cells) (sizeOf (world .boxes) i) x y
@@ -78,7 +81,7 @@ state-sound world state = each-says _ (world .yard .b) one
 -- Where carrier i is free its own words play no part; put at a place that is free for it, it leaves
 -- every carrier free.
 module _ (world : World) (i : ℕ) (c : Carrier) (state : List ℤ)
-    (room : 5 * i + 5 ≤ length state) where
+    (room : carrierWords * i + carrierWords ≤ length state) where
   pub free-own : (x y : ℤ) → freeFor world i (put i c state) x y ≡ freeFor world i state x y
   unfolding freeFor
   free-own x y = refl
@@ -109,9 +112,9 @@ unfolding soundState
 each-free world state e i l = good-of _ _ (passes _ _ e i l) .here
 
 -- A carrier's step keeps the state rule.
-module _ (world : World) (held : Held) (i : ℕ) (state : List ℤ) (h : i < world .yard .b)
+module _ (world : World) (held : HeldLever) (i : ℕ) (state : List ℤ) (h : i < world .yard .b)
     (fits : LeverFits held) (s : StateFits world state) where
-  room : 5 * i + 5 ≤ length state
+  room : carrierWords * i + carrierWords ≤ length state
   room = omega (arith, s .room)
 
   moved : Carrier

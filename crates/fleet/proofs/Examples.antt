@@ -5,7 +5,7 @@ use Rattle.basis.specs.Order.{answer}
 use Rattle.record.specs.Bytes.{recordOf, wellFormed, limitsOrder, readOrder}
 use Rattle.record.specs.Log.{precedes}
 use Rattle.yard.specs.Ranges.{between, every}
-use Rattle.yard.specs.World.{sizeOf}
+use Rattle.yard.specs.Boxes.{sizeOf}
 use Rattle.yard.specs.Free.{wall, share, covers, noWall, free}
 use Rattle.yard.specs.Rule9.{sizeHolds, sizesHold}
 use Rattle.yard.specs.Step.{soundCarrier}

@@ -14,14 +14,14 @@ use Rattle.record.specs.Log.{soundLog}
 use Rattle.record.proofs.Logs.{sound}
 use Rattle.yard.specs.declared.world.Yard.{Yard}
 use Rattle.yard.specs.declared.carrier.Carrier.{Carrier}
-use Rattle.yard.specs.World.{word}
+use Rattle.yard.specs.Boxes.{word}
 use Rattle.yard.specs.Rule9.{startsHold}
 use Rattle.yard.specs.Step.{atRest}
 use Rattle.yard.proofs.Every.{all-pass}
 use Rattle.yard.proofs.Fits.{start-free}
 use Rattle.yard.proofs.Soundness.{rest-sound}
-use Rattle.fleet.specs.State.{World, worldOf, carrier, wordsOf, freeFor, soundState, startTo}
-use Rattle.fleet.specs.State.{startState}
+use Rattle.fleet.specs.State.{World, worldOf, carrierWords, carrier, wordsOf, freeFor}
+use Rattle.fleet.specs.State.{soundState, startTo, startState}
 use Rattle.fleet.specs.Fits.{LogFits, StateFits}
 use Rattle.fleet.proofs.Words.{same-words, carrier-is, length-start}
 
@@ -44,7 +44,7 @@ unfolding startTo
 earlier-start boxes b i h =
     same-words i i (startTo boxes (suc b)) (startTo boxes b)
     (λ j l.
-    List·getD-append (startTo boxes b) (wordsOf (first boxes b)) (pos 0) (5 * i + j)
+    List·getD-append (startTo boxes b) (wordsOf (first boxes b)) (pos 0) (carrierWords * i + j)
     (omega (arith, length-start boxes b)))
 
 -- 'At the start u, v and lever are 0': each carrier at rest where the world puts it.

@@ -7,7 +7,7 @@ use lib.IntN.{ℤ}
 use lib.ListN.{length}
 use Rattle.basis.specs.Numbers.{mostRecords, rowCount}
 use Rattle.record.specs.Log.{ascending, records, noneRefused}
-use Rattle.yard.specs.World.{CellsFit, BoxesFit}
+use Rattle.yard.specs.Boxes.{CellsFit, BoxesFit}
 use Rattle.yard.specs.Rule9.{sizesHold}
 use Rattle.fleet.specs.State.{World, stateWords, soundState}
 

@@ -7,7 +7,6 @@
 --   Examples    the practice yard, which fits what the functions are given
 --   Says        the contract of the one public entry, by name
 --   Statements  what is claimed of these; proofs/Statements.antt has a proof of each
---   Cursor      for contracts of parts only: where the cursor of a step goes
 pub mod State
 pub mod Step
 pub mod Run
@@ -16,4 +15,3 @@ pub mod Fits
 pub mod Examples
 pub mod Says
 pub mod Statements
-pub mod Cursor

@@ -8,7 +8,7 @@ use lib.Seq.{paste}
 use Rattle.yard.specs.declared.world.Yard.{Yard}
 use Rattle.yard.specs.declared.carrier.Carrier.{Carrier}
 use Rattle.yard.specs.Ranges.{every}
-use Rattle.yard.specs.World.{word, sizeOf}
+use Rattle.yard.specs.Boxes.{word, sizeOf}
 use Rattle.yard.specs.Free.{free}
 use Rattle.yard.specs.Step.{atRest, soundCarrier}
 

@@ -9,17 +9,18 @@ use lib.IntN.{ℤ}
 use lib.ListN.{length}
 use Rattle.basis.specs.Numbers.{rowCount}
 use Rattle.basis.specs.Order.{Determines}
+use Rattle.basis.specs.HeldLever.{heldOf}
 use Rattle.record.specs.declared.bytes.Record.{Record}
 use Rattle.record.specs.Log.{records}
-use Rattle.record.specs.Held.{leverAt}
+use Rattle.record.specs.Buffer.{leverAt}
 use Rattle.yard.specs.declared.carrier.Carrier.{Carrier}
-use Rattle.yard.specs.World.{word, sizeOf}
+use Rattle.yard.specs.Boxes.{word, sizeOf}
 use Rattle.yard.specs.Free.{free}
 use Rattle.yard.specs.Rule9.{startsHold}
 use Rattle.yard.specs.Step.{LeverFits, atRest, step}
 use Rattle.fleet.specs.State.{World, carrierWords, stateWords, carrier, put, freeFor}
 use Rattle.fleet.specs.State.{soundState, startState}
-use Rattle.fleet.specs.Step.{heldOf, stepTo, stepAll, stepAt}
+use Rattle.fleet.specs.Step.{stepTo, stepAll, stepAt}
 use Rattle.fleet.specs.Run.{Course, run, runSaving, rowOf, goBack}
 use Rattle.fleet.specs.Facts.{StateSound}
 use Rattle.fleet.specs.Fits.{LogFits, StateFits, RowsFit}

@@ -1,9 +1,11 @@
 // All carriers of a yard: their state words, one step of them all under the log, and runs of steps.
 
+mod practice;
 mod runs;
 mod state;
 mod step;
 
+pub use practice::Practice;
 pub use runs::Rows;
 pub use runs::bring_back;
 pub use runs::clear_rows;

@@ -5,7 +5,7 @@ ghost use Prim.Native.Nat.{_+_, _*_, _≤_, _<_};
 ghost use lib.ListN.{length};
 ghost use Rattle.fleet.specs.State.{carrier, carrierWords, put, soundState, startTo, worldOf};
 ghost use Rattle.fleet.specs.Fits.{WorldFits};
-ghost use Rattle.yard.specs.World.{BoxesFit};
+ghost use Rattle.yard.specs.Boxes.{BoxesFit};
 use yard::Carrier;
 use yard::Size;
 use yard::Yard;

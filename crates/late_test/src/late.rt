@@ -1,20 +1,18 @@
 // Document 01, 'Going back': late records, repeats, orders, and the log when it is full.
-use desk::Practice;
-use desk::replay;
-use desk::say;
 use record::Record;
+use test_desk::Desk;
+use test_desk::say;
 
 pub fn run() {
     window();
     held();
     orders();
     full();
-    replays();
 }
 
 // 100 steps made, and the carrier on its way.
-fn under_way() -> Practice {
-    let k = Practice::open(0).deliver(0, 0, 1).deliver(30, 0, 4);
+fn under_way() -> Desk {
+    let k = Desk::open(0).deliver(0, 0, 1).deliver(30, 0, 4);
     k.deliver(60, 0, 9).deliver(92, 0, 8).hundred()
 }
 
@@ -37,10 +35,7 @@ fn window() {
 
 fn held() {
     say::title(b"100 steps made, step 35 already held: the same lever is HELD, another 6");
-    let k = Practice::open(0)
-        .deliver(35, 0, 3)
-        .deliver(90, 0, 8)
-        .hundred();
+    let k = Desk::open(0).deliver(35, 0, 3).deliver(90, 0, 8).hundred();
     k.digest();
     k.deliver(35, 0, 3).deliver(35, 0, 4).digest();
 }
@@ -59,7 +54,7 @@ fn orders() {
 
 fn full() {
     say::title(b"2048 held: another is refused; 1, 6 and 7 come before 8");
-    let k = filled(Practice::open(0));
+    let k = filled(Desk::open(0));
     k.digest();
     let k = k.deliver(2_148, 0, 1)
         .deliver(100, 0, 0)
@@ -72,7 +67,7 @@ fn full() {
 }
 
 // Records for the steps 100 to 2,147: levers 0 to 9 by turns.
-fn filled(opened: Practice) -> Practice {
+fn filled(opened: Desk) -> Desk {
     let mut k = opened;
     let mut step = 100;
     while step < 2_148 {
@@ -84,18 +79,4 @@ fn filled(opened: Practice) -> Practice {
         step += 1;
     }
     k
-}
-
-fn replays() {
-    say::title(b"replay: the program's two examples, 13, and 13 before 5");
-    let two = b"\0\0\0\0\0\x01\0\0\x02\0\0\0\0\x09\0\0";
-    replay(3, two);
-    replay(0, b"");
-    replay(2, two);
-    replay(180_000, two);
-    replay(180_001, two);
-    replay(3, b"\0\0\0\0\0\x01\0");
-    replay(3, b"\0\0\0\0\x01\x01\0\0");
-    replay(3, b"\x02\0\0\0\0\x09\0\0\0\0\0\0\0\x01\0\0");
-    replay(180_001, b"\0\0\0\0\0\x0a\0\0");
 }

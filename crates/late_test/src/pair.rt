@@ -1,9 +1,12 @@
 // Two carriers in the cells of the practice yard.
-use desk::Practice;
-use desk::answers;
-use desk::say;
+use fleet::Practice;
+use fleet::Rows;
+use fleet::State;
+use record::Buffer;
 use record::Record;
 use session::Session;
+use test_desk::answers;
+use test_desk::say;
 use yard::Yard;
 
 pub fn run() {
@@ -23,9 +26,9 @@ fn twelve() -> Pair {
 
 struct Pair {
     session: Session,
-    state: [i32; 10],
-    rows: [i32; 640],
-    log: [u8; 16_384],
+    state: [i32; 2 * State::WORDS],
+    rows: [i32; 2 * Rows::COUNT * State::WORDS],
+    log: [u8; Buffer::SIZE],
 }
 
 impl Pair {
@@ -36,9 +39,9 @@ impl Pair {
     fn open() -> Pair {
         let cells = Practice::CELLS;
         let boxes = Pair::BOXES;
-        let mut state = [7i32; 10];
-        let mut rows = [7i32; 640];
-        let mut log = [7u8; 16_384];
+        let mut state = [7i32; 2 * State::WORDS];
+        let mut rows = [7i32; 2 * Rows::COUNT * State::WORDS];
+        let mut log = [7u8; Buffer::SIZE];
         let answer = Session::open(
             Pair::YARD,
             0,

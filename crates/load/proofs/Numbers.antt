@@ -78,7 +78,8 @@ module _ (load : Load) (p : ℕ) where
       (some-above p 1024
       (some-above (natAbs (load .x)) 32767
       (some-above (natAbs (load .v)) 32767
-      (some-above (natAbs (moved p load .x)) 32767 (not-le (natAbs (moved p load .v)) 32767))))) in (
+      (some-above (natAbs (moved p load .x)) 32767
+      (not-le (natAbs (moved p load .v)) 32767))))) in (
         λ nay. all .0 (λ (a, (b, (c, (d, (e, f))))). nay ((a, b), ((c, d), (e, f)))),
         λ some ((a, b), ((c, d), (e, f))). all .1 some (a, (b, (c, (d, (e, f))))),
       )

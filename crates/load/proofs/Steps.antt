@@ -2,7 +2,7 @@
 use Prim.Native.Nat.{ℕ, suc, _+_, _*_, _/_, _<_, _≤_}
 use mathlib.Core.Path.{_≡_, refl, sym, _∙_}
 use mathlib.Core.Logic.{_↔_}
-use mathlib.Core.Bool.{true, false}
+use mathlib.Core.Bool.{Bool, true, false}
 use native.Mathlib.Nat.{mul-le-mul}
 use native.Mathlib.Omega.{arith}
 use borrow.Author.Tests.{leb-true, leb-false, le-leb, lt-leb}
@@ -12,9 +12,9 @@ use lib.Signed.{leZ, shrZ}
 use mir.Syntax.{w32}
 use mir.Val.{SFits}
 use Rattle.basis.specs.Numbers.{LOAD}
-use Rattle.basis.specs.Order.{answer, refused, accepted}
+use Rattle.basis.specs.Order.{Order, check, answer, refused, accepted}
 use Rattle.basis.proofs.Order.{passes, fails, gives, held, given}
-use Rattle.basis.proofs.Tests.{never, not-left, not-right, says-le, says-two}
+use Rattle.basis.proofs.Tests.{never, and-both, not-left, not-right, says-le, says-two}
 use Rattle.basis.proofs.Signed.{small, abs-add, abs-sub, abs-mul}
 use Rattle.load.specs.Step.{within, inRange, isStiffness, quotient, speedAfter, moved}
 use Rattle.load.specs.Step.{stepOrder}
@@ -49,26 +49,43 @@ too-soft p h = not-left (leb 1 p) (leb p 1024) (lt-leb 1 p h)
 pub too-stiff : (p : ℕ) → 1024 < p → isStiffness p ≡ false
 too-stiff p h = not-right (leb 1 p) (leb p 1024) (lt-leb p 1024 h)
 
+-- Behind a test with the same number, a test that fails gives it too.
+behind : {A : Type 0} (n : ℕ) (rest : Order A) (s : Bool) {t : Bool} → t ≡ false
+    → answer (check s n (check t n rest)) ≡ refused n
+behind n rest true e = passes _ _ refl ∙ fails _ _ e
+behind n rest false e = fails _ _ refl
+
 -- The ways through a step.
 module _ (p : ℕ) (load : Load) where
+  pub bad-state : inRange load ≡ false → answer (stepOrder p load) ≡ refused LOAD
+  unfolding stepOrder
+  bad-state e = behind _ _ (isStiffness p) e
+
   pub bad-stiffness : isStiffness p ≡ false → answer (stepOrder p load) ≡ refused LOAD
   unfolding stepOrder
   bad-stiffness e = fails _ _ e
 
-  module _ (good : isStiffness p ≡ true) where
-    pub bad-state : inRange load ≡ false → answer (stepOrder p load) ≡ refused LOAD
+  module _ (good : isStiffness p ≡ true) (range : inRange load ≡ true) where
+    bad-step : inRange (moved p load) ≡ false → answer (stepOrder p load) ≡ refused LOAD
     unfolding stepOrder
-    bad-state e = passes _ _ good ∙ fails _ _ e
+    bad-step e = passes _ _ good ∙ passes _ _ range ∙ fails _ _ e
 
-    module _ (range : inRange load ≡ true) where
-      pub bad-step : inRange (moved p load) ≡ false → answer (stepOrder p load) ≡ refused LOAD
-      unfolding stepOrder
-      bad-step e = passes _ _ good ∙ passes _ _ range ∙ fails _ _ e
+    pub bad-speed : within (speedAfter p load) ≡ false → answer (stepOrder p load) ≡ refused LOAD
+    unfolding inRange moved
+    bad-speed e =
+        bad-step (not-right (within (load .x +ℤ speedAfter p load)) (within (speedAfter p load)) e)
 
-      pub moves : inRange (moved p load) ≡ true
-          → answer (stepOrder p load) ≡ accepted (moved p load)
-      unfolding stepOrder
-      moves e = passes _ _ good ∙ passes _ _ range ∙ passes _ _ e ∙ gives _
+    pub bad-offset : within (load .x +ℤ speedAfter p load) ≡ false
+        → answer (stepOrder p load) ≡ refused LOAD
+    unfolding inRange moved
+    bad-offset e =
+        bad-step (not-left (within (load .x +ℤ speedAfter p load)) (within (speedAfter p load)) e)
+
+    pub moves : within (speedAfter p load) ≡ true → within (load .x +ℤ speedAfter p load) ≡ true
+        → answer (stepOrder p load) ≡ accepted (moved p load)
+    unfolding stepOrder inRange moved
+    moves speed offset =
+        passes _ _ good ∙ passes _ _ range ∙ passes _ _ (and-both offset speed) ∙ gives _
 
 -- What an unrefused step says.
 pub record Accepted (p : ℕ) (load after : Load) : Type 0 where

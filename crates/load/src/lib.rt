@@ -1,8 +1,6 @@
 // The hanging load. Document 02, §7.
 ghost use mathlib.Core.Path.{_≡_};
-ghost use mathlib.Core.Bool.{true};
-ghost use Prim.Native.Nat.{_≤_};
-ghost use Rattle.load.specs.Step.{within, inRange, moved};
+ghost use Rattle.load.specs.Step.{within, inRange};
 ghost use Rattle.load.specs.Says.{StepSays};
 use basis::Number;
 
@@ -40,32 +38,32 @@ impl Load {
         Load::within(self.x) && Load::within(self.v)
     }
 
-    // The load after a step, wherever it ends. A shift of a signed word rounds down.
-    fn moved(self, stiffness: u32) -> Load
-        requires stiffness { ⌜ stiffness ≤ 1024 ⌝ }
-        requires range { ⌜ inRange self ≡ true ⌝ }
-        ensures moved { λ r. ⌜ r ≡ moved stiffness self ⌝ }
-    {
-        let x = self.x;
-        let speed = self.v;
-        let v = speed - ((stiffness as i32 * x) >> Load::SHIFT);
-        Load { x: x + v, v }
-    }
-
     // One step with a stiffness; 17 where one of them, or the load after it, is out of range.
     pub fn step(self, stiffness: u32) -> Stepped
         ensures stepped { λ r. ⌜ StepSays self stiffness r ⌝ }
     {
-        if stiffness < 1 || Load::D < stiffness {
-            return Stepped::Refused(Number::LOAD);
-        }
+        // Each refusal is 17: the order of the tests is free, and this one is the quickest.
         if !self.in_range() {
             return Stepped::Refused(Number::LOAD);
         }
-        let after = self.moved(stiffness);
-        if !after.in_range() {
+        if stiffness < 1 || Load::D < stiffness {
             return Stepped::Refused(Number::LOAD);
         }
+        let x = self.x;
+        let v = self.v;
+        // A shift of a signed word rounds down.
+        let speed = v - ((stiffness as i32 * x) >> Load::SHIFT);
+        if !Load::within(speed) {
+            return Stepped::Refused(Number::LOAD);
+        }
+        let offset = x + speed;
+        if !Load::within(offset) {
+            return Stepped::Refused(Number::LOAD);
+        }
+        let after = Load {
+            x: offset,
+            v: speed,
+        };
         Stepped::Moved(after)
     }
 }

@@ -12,7 +12,7 @@ use borrow.Author.Tests.{leb-true, leb-false}
 use Rattle.basis.specs.Numbers.{LOG, mostCarriers}
 use Rattle.basis.specs.Order.{Answer, refused, answer}
 use Rattle.basis.proofs.Order.{apart}
-use Rattle.record.specs.Held.{bufferSize}
+use Rattle.record.specs.Buffer.{bufferSize}
 use Rattle.record.specs.Log.{soundLog}
 use Rattle.record.specs.declared.bytes.Record.{Record}
 use Rattle.record.proofs.Logs.{sound, length-logOf}

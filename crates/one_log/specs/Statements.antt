@@ -5,7 +5,7 @@ use mathlib.Core.Logic.{_⊎_}
 use mathlib.Core.List.{List}
 use lib.ListN.{length, take}
 use Rattle.basis.specs.Order.{refused, accepted, answer}
-use Rattle.record.specs.Held.{bufferSize}
+use Rattle.record.specs.Buffer.{bufferSize}
 use Rattle.record.specs.declared.bytes.Record.{Record}
 use Rattle.one_log.specs.Written.{programOrder, written}
 

@@ -3,7 +3,7 @@ use Prim.Native.Nat.{ℕ}
 use mathlib.Core.List.{List, [], _∷_}
 use Rattle.basis.specs.Numbers.{mostCarriers}
 use Rattle.basis.specs.Order.{Answer, refused, accepted, Order}
-use Rattle.record.specs.Held.{bufferSize}
+use Rattle.record.specs.Buffer.{bufferSize}
 use Rattle.record.specs.Log.{logOf}
 use Rattle.record.specs.declared.bytes.Record.{Record}
 use Rattle.merge.specs.Calls.{mergeOrder}

@@ -1,10 +1,14 @@
 // Document 01, 'Numbers given back': records, worlds, lengths and sessions that are refused, by the
 // calls of `session` on real buffers. The file `stdout` holds what the model of second/ gives.
 use clock::Clock;
-use desk::Practice;
-use desk::answers;
-use desk::say;
+use fleet::Practice;
+use fleet::Rows;
+use fleet::State;
+use record::Buffer;
 use session::Session;
+use test_desk::Desk;
+use test_desk::answers;
+use test_desk::say;
 use yard::Yard;
 
 fn main() {
@@ -17,8 +21,8 @@ fn main() {
 }
 
 // 12 steps made and one record held.
-fn twelve() -> Practice {
-    let k = Practice::open(0).deliver(0, 0, 1).reading(250_000);
+fn twelve() -> Desk {
+    let k = Desk::open(0).deliver(0, 0, 1).reading(250_000);
     k.digest();
     k
 }
@@ -35,7 +39,7 @@ fn records() {
     k.deliver(179_999, 0, 9).digest();
 }
 
-fn bytes(k: Practice, name: &[u8], bytes: &[u8]) -> Practice {
+fn bytes(k: Desk, name: &[u8], bytes: &[u8]) -> Desk {
     say::text(b"deliver ");
     say::text(name);
     k.bytes(bytes)
@@ -55,7 +59,7 @@ fn worlds() {
 }
 
 // Opening with W, H and B.
-fn sized(k: Practice, w: u32, h: u32, b: u32) -> Practice {
+fn sized(k: Desk, w: u32, h: u32, b: u32) -> Desk {
     let cells = Practice::CELLS;
     let boxes = Practice::BOXES;
     say::named(b"open with", w as u64);
@@ -64,14 +68,14 @@ fn sized(k: Practice, w: u32, h: u32, b: u32) -> Practice {
     k.opened(Yard { w, h, b }, 0, &cells, &boxes)
 }
 
-fn celled(k: Practice, name: &[u8], cells: &[u8]) -> Practice {
+fn celled(k: Desk, name: &[u8], cells: &[u8]) -> Desk {
     let boxes = Practice::BOXES;
     say::text(b"open with ");
     say::text(name);
     k.opened(Practice::YARD, 0, cells, &boxes)
 }
 
-fn boxed(k: Practice, name: &[u8], boxes: &[i32]) -> Practice {
+fn boxed(k: Desk, name: &[u8], boxes: &[i32]) -> Desk {
     let cells = Practice::CELLS;
     say::text(b"open with ");
     say::text(name);
@@ -84,36 +88,39 @@ fn lengths() {
     let k = celled(k, b"two cells of 2", b"\x02\x02");
     let k = boxed(k, b"three words of boxes", &[0, 256, 0]);
     k.digest();
-    four_state_words();
+    state_word_missing();
     row_word_missing();
     log_byte_missing();
 }
 
-fn four_state_words() {
-    let mut state = [7i32; 4];
-    let mut rows = [7i32; 320];
-    let mut log = [7u8; 16_384];
-    opened(b"4 state words", &mut state, &mut rows, &mut log);
+fn state_word_missing() {
+    let mut state = [7i32; State::WORDS - 1];
+    let mut rows = [7i32; Rows::COUNT * State::WORDS];
+    let mut log = [7u8; Buffer::SIZE];
+    say::named(b"open with", state.len() as u64);
+    opened(b" state words", &mut state, &mut rows, &mut log);
 }
 
 fn row_word_missing() {
-    let mut state = [7i32; 5];
-    let mut rows = [7i32; 319];
-    let mut log = [7u8; 16_384];
-    opened(b"319 row words", &mut state, &mut rows, &mut log);
+    let mut state = [7i32; State::WORDS];
+    let mut rows = [7i32; Rows::COUNT * State::WORDS - 1];
+    let mut log = [7u8; Buffer::SIZE];
+    say::named(b"open with", rows.len() as u64);
+    opened(b" row words", &mut state, &mut rows, &mut log);
 }
 
 fn log_byte_missing() {
-    let mut state = [7i32; 5];
-    let mut rows = [7i32; 320];
-    let mut log = [7u8; 16_383];
-    opened(b"16383 log bytes", &mut state, &mut rows, &mut log);
+    let mut state = [7i32; State::WORDS];
+    let mut rows = [7i32; Rows::COUNT * State::WORDS];
+    let mut log = [7u8; Buffer::SIZE - 1];
+    say::named(b"open with", log.len() as u64);
+    opened(b" log bytes", &mut state, &mut rows, &mut log);
 }
 
+// The end of the name, and the opening with these buffers.
 fn opened(name: &[u8], state: &mut [i32], rows: &mut [i32], log: &mut [u8]) {
     let cells = Practice::CELLS;
     let boxes = Practice::BOXES;
-    say::text(b"open with ");
     say::text(name);
     let answer = Session::open(Practice::YARD, 0, &cells, &boxes, state, rows, log);
     answers::say_running(answer);
@@ -137,14 +144,14 @@ fn sessions() {
     held(k, 1);
 }
 
-fn lever_ten(k: Practice) {
+fn lever_ten(k: Desk) {
     say::text(b"lever 10, ");
     k.digest();
     k.shown(1);
     bytes(k.reading(0), b"7 bytes", b"\0\0\0\0\0\x01\0").digest();
 }
 
-fn two_carriers(k: Practice) {
+fn two_carriers(k: Desk) {
     let yard = Yard { w: 4, h: 3, b: 2 };
     let clock = k.session.clock;
     let held = k.session.held;
@@ -152,7 +159,7 @@ fn two_carriers(k: Practice) {
     k.with_session(Session { yard, clock, held }).digest();
 }
 
-fn held(k: Practice, held: usize) {
+fn held(k: Desk, held: usize) {
     say::named(b"held", held as u64);
     say::text(b", ");
     k.with_held(held).digest();
@@ -169,7 +176,7 @@ fn clocks() {
     clock(k, 3_600_000_000, 0, 0, 180_000);
 }
 
-fn clock(k: Practice, last: u64, remainder: u64, cut: u64, steps: u64) {
+fn clock(k: Desk, last: u64, remainder: u64, cut: u64, steps: u64) {
     let clock = Clock {
         first: 0,
         last,

@@ -12,18 +12,18 @@ use Rattle.basis.specs.Numbers.{LOG, mostSteps}
 use Rattle.basis.specs.Order.{Answer, answer, refused, accepted}
 use Rattle.basis.proofs.Order.{held, given, apart}
 use Rattle.record.specs.Bytes.{recordOf, wellFormed, limitsOrder, readOrder}
-use Rattle.record.specs.Held.{bufferSize}
+use Rattle.record.specs.Buffer.{bufferSize}
 use Rattle.record.specs.Log.{precedes, soundLog}
 use Rattle.yard.specs.Free.{wall, share, covers, noWall, free}
 use Rattle.yard.specs.Levers.{pushOf, cutSpeed, brake, newSpeed}
 use Rattle.yard.specs.Ranges.{every}
 use Rattle.yard.specs.Slide.{toward, clearOn, walk, distance, slide}
 use Rattle.yard.specs.Step.{step}
-use Rattle.yard.specs.World.{sizeOf}
+use Rattle.yard.specs.Boxes.{sizeOf}
 use Rattle.fleet.specs.Run.{run}
 use Rattle.fleet.specs.State.{carrier, wordsOf, put, freeFor, startTo}
 use Rattle.fleet.specs.Step.{stepOne, stepTo, stepAll}
-use Rattle.record.specs.Held.{leverAt}
+use Rattle.record.specs.Buffer.{leverAt}
 use Rattle.fleet.specs.Examples.{practice}
 use Rattle.rerun.specs.Rerun.{End, stepsPast, programOrder}
 use Rattle.rerun.specs.Statements.{Program, Examples}

@@ -7,9 +7,10 @@ use lib.IntN.{ℤ}
 use lib.ListN.{length, take}
 use Rattle.basis.specs.Numbers.{LOG, mostSteps}
 use Rattle.basis.specs.Order.{refused, accepted, answer}
-use Rattle.record.specs.Held.{bufferSize}
+use Rattle.record.specs.Buffer.{bufferSize}
 use Rattle.record.specs.Log.{recordsOf, soundLog}
 use Rattle.session.specs.Calls.{replayOrder}
+use Rattle.fleet.specs.State.{stateWords}
 use Rattle.fleet.specs.Examples.{practice, twoRecords}
 use Rattle.rerun.specs.Rerun.{End, stepsPast, endOf, programOrder}
 use Rattle.rerun.specs.Text.{programText}
@@ -31,7 +32,7 @@ pub record Program : Type 0 where
   pub rerun : (input : List ℕ) → soundLog (practice .yard .b) input ≡ true
       → answer (programOrder input) ≡ accepted (endOf (recordsOf input))
   -- A sound log is replayed: whatever the state held, replay of it gives this state.
-  pub replayed : (input : List ℕ) (state : List ℤ) → length state ≡ 5
+  pub replayed : (input : List ℕ) (state : List ℤ) → length state ≡ stateWords practice
       → soundLog (practice .yard .b) input ≡ true
       → answer (replayOrder (practice .yard) (stepsPast (recordsOf input))
       (practice .cells) (practice .boxes) state input)

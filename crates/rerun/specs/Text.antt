@@ -1,11 +1,12 @@
 -- Document 01, 'The program': the lines that it writes, as bytes of ASCII.
-use Prim.Native.Nat.{ℕ, zero, suc, _+_, _/_, _%_}
+use Prim.Native.Nat.{ℕ, zero, suc, _+_, _*_, _/_, _%_}
 use mathlib.Core.Bool.{cond}
 use mathlib.Core.List.{List, [], _∷_, _++_}
 use lib.Dec.{ltb}
 use lib.IntN.{ℤ, pos, negsuc}
 use lib.ListN.{getD}
 use Rattle.basis.specs.Order.{Answer, refused, accepted}
+use Rattle.fleet.specs.State.{carrierWords}
 use Rattle.session.specs.declared.Replayed.{Replayed}
 use Rattle.session.specs.declared.Replayed.the-variants as replayed
 use Rattle.rerun.specs.Rerun.{End}
@@ -25,6 +26,18 @@ unfoldable pub wordText : ℤ → List ℕ
 wordText (pos n) = 32 ∷ decimal n
 wordText (negsuc n) = 32 ∷ 45 ∷ decimal (suc n)
 
+-- The most bytes that a word takes: a space, a sign and 20 digits.
+abbrev pub wordRoom : ℕ
+wordRoom = 22
+
+-- The most that a state's words take.
+abbrev pub stateRoom : ℕ
+stateRoom = wordRoom * carrierWords
+
+-- Enough for the lines of any state.
+abbrev pub textRoom : ℕ
+textRoom = 50 + stateRoom
+
 -- `steps `
 abbrev pub stepsText : List ℕ
 stepsText = 115 ∷ 116 ∷ 101 ∷ 112 ∷ 115 ∷ 32 ∷ []
@@ -37,7 +50,7 @@ carrierText = 10 ∷ 48 ∷ []
 abbrev pub refusedText : List ℕ
 refusedText = 114 ∷ 101 ∷ 102 ∷ 117 ∷ 115 ∷ 101 ∷ 100 ∷ 32 ∷ []
 
--- A text with the five words of a state after it.
+-- A text with the words of a state after it.
 unfoldable pub wordsText : List ℕ → List ℤ → List ℕ
 wordsText text state =
     text

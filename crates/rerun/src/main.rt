@@ -1,7 +1,7 @@
 // The program: the log on standard input, re-run in the practice yard (document 01, 'The program').
-//   practice  what a log comes to
-//   text      the lines of it
-mod practice;
+//   ended  what a log comes to
+//   text   the lines of it
+mod ended;
 mod text;
 
 ghost use mathlib.Core.Path.{_≡_};
@@ -9,22 +9,22 @@ ghost use Prim.Native.Nat.{_≤_};
 ghost use lib.ListN.{length, take};
 ghost use Rattle.basis.specs.Order.{answer};
 ghost use Rattle.rerun.specs.Rerun.{programOrder};
-ghost use Rattle.rerun.specs.Text.{programText};
+ghost use Rattle.rerun.specs.Text.{programText, textRoom};
+use ended::rerun;
 use input::Input;
 use input::read_input;
 use libc::STDERR_FILENO;
 use libc::STDIN_FILENO;
 use libc::STDOUT_FILENO;
-use practice::rerun;
 use record::Buffer;
 use text::Text;
 use text::lines;
 
 // What the program writes for an input, at the front of the text; and how long it is.
 fn program(input: &[u8], text: &mut [u8]) -> usize
-    requires room { ⌜ 160 ≤ length (now text) ⌝ }
+    requires room { ⌜ textRoom ≤ length (now text) ⌝ }
     ensures text { λ r. ⌜
-        (r ≤ 160)
+        (r ≤ textRoom)
         × (take r (now (text .exit)) ≡ programText (answer (programOrder (now (input .entry))))) ⌝ }
 {
     lines(rerun(input), text)

@@ -4,16 +4,26 @@ ghost use mathlib.Core.Path.{_≡_};
 ghost use mathlib.Core.List.{_++_};
 ghost use Prim.Native.Nat.{_+_, _≤_};
 ghost use lib.ListN.{length, take};
-ghost use Rattle.rerun.specs.Text.{decimal, linesOf, wordText, wordsText};
-use super::practice::Ended;
+ghost use Rattle.fleet.specs.State.{carrierWords};
+ghost use Rattle.rerun.specs.Text.{
+  decimal,
+  linesOf,
+  stateRoom,
+  textRoom,
+  wordRoom,
+  wordText,
+  wordsText,
+};
+use super::ended::Ended;
+use fleet::State;
 use session::Replayed;
 use yard::magnitude;
 
 pub struct Text {}
 
 impl Text {
-    // Enough for the lines of any state.
-    pub const SIZE: usize = 160;
+    // Enough for the lines of any state: 22 bytes a word, and 50 for all else.
+    pub const SIZE: usize = 50 + 22 * State::WORDS;
 }
 
 // Puts bytes into the text from a place on, and answers where they end.
@@ -44,9 +54,9 @@ fn put_number(text: &mut [u8], at: usize, n: u64) -> usize
 
 // A space, then the word with its sign.
 fn put_word(text: &mut [u8], at: usize, z: i32) -> usize
-    requires room { ⌜ at + 22 ≤ length (now text) ⌝ }
+    requires room { ⌜ at + wordRoom ≤ length (now text) ⌝ }
     ensures put { λ r. ⌜
-        (r ≤ at + 22)
+        (r ≤ at + wordRoom)
         × (take r (now (text .exit)) ≡ take at (now (text .entry)) ++ wordText z) ⌝ }
 {
     let size = magnitude(z) as u64;
@@ -58,11 +68,11 @@ fn put_word(text: &mut [u8], at: usize, z: i32) -> usize
     put_number(text, next, size)
 }
 
-// The state's five words.
-fn put_state(text: &mut [u8], at: usize, state: [i32; 5]) -> usize
-    requires room { ⌜ (length state ≡ 5) × (at + 110 ≤ length (now text)) ⌝ }
+// The words of the state.
+fn put_state(text: &mut [u8], at: usize, state: [i32; State::WORDS]) -> usize
+    requires room { ⌜ (length state ≡ carrierWords) × (at + stateRoom ≤ length (now text)) ⌝ }
     ensures put { λ r. ⌜
-        (r ≤ at + 110)
+        (r ≤ at + stateRoom)
         × (take r (now (text .exit)) ≡ wordsText (take at (now (text .entry))) state) ⌝ }
 {
     let x = put_word(text, at, state[0]);
@@ -74,9 +84,9 @@ fn put_state(text: &mut [u8], at: usize, state: [i32; 5]) -> usize
 
 // The lines, at the front of the text, and how long they are.
 pub fn lines(ended: Ended, text: &mut [u8]) -> usize
-    requires room { ⌜ (length (ended .state) ≡ 5) × (160 ≤ length (now text)) ⌝ }
+    requires room { ⌜ (length (ended .state) ≡ carrierWords) × (textRoom ≤ length (now text)) ⌝ }
     ensures lines { λ r. ⌜
-        (r ≤ 160)
+        (r ≤ textRoom)
         × (take r (now (text .exit)) ≡ linesOf (ended .answer) (ended .steps) (ended .state)) ⌝ }
 {
     let answer = ended.answer;

@@ -1,6 +1,6 @@
 -- What is claimed of a step of a rope end. proofs/Statements.antt proves each record whole.
--- Floats are equal, `≡`, bit for bit: the sign of a zero counts. All patterns of a NaN are one `nan`,
--- which no step gives. `fits binary64 x` says that x is an f64.
+-- Floats are equal, `≡`, bit for bit: the sign of a zero counts. All patterns of a NaN are one
+-- `nan`, which no step gives. `fits binary64 x` says that x is an f64.
 use Prim.Native.Nat.{ℕ}
 use mathlib.Core.Path.{_≡_}
 use mathlib.Core.Logic.{_↔_, _≢_}

@@ -101,8 +101,8 @@ impl Point {
         }
     }
 
-    // One step under the first `count` forces, 'added in list order starting from 0.0'; what can't be
-    // used is refused as 18.
+    // One step under the first `count` forces, 'added in list order starting from 0.0'; what can't
+    // be used is refused as 18.
     pub fn step(self, forces: [Force; 8], count: usize) -> Stepped
         ensures stepped { λ r. ⌜ StepSays self forces count r ⌝ }
     {

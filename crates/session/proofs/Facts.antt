@@ -8,7 +8,7 @@ use lib.IntN.{ℤ}
 use lib.ListN.{length}
 use Rattle.basis.specs.Numbers.{stepLength}
 use Rattle.basis.proofs.Tests.{says-eq, says-two, says-three}
-use Rattle.record.specs.Held.{bufferSize}
+use Rattle.record.specs.Buffer.{bufferSize}
 use Rattle.record.proofs.Rules.{buffer-valid}
 use Rattle.clock.proofs.Sound.{exactly-sound}
 use Rattle.yard.specs.declared.world.Yard.{Yard}
@@ -34,7 +34,7 @@ unfolding room
 room-fits yard l =
     Iff·trans
     (says-three (lengths-fit yard (l .cells) (l .boxes) (l .state))
-    (says-eq (length (l .rows)) (320 * yard .b)) (says-eq (length (l .log)) bufferSize)) (
+    (says-eq _ _) (says-eq (length (l .log)) bufferSize)) (
       λ (w, r, b). record { lengths = w; rowWords = r; logBytes = b },
       λ f. (f .lengths, f .rowWords, f .logBytes),
     )

@@ -5,7 +5,7 @@ use native.Mathlib.Omega.{arith}
 use Rattle.basis.specs.Numbers.{stepLength}
 use Rattle.basis.specs.LittleEndian.{Bytes}
 use Rattle.basis.proofs.Tests.{and-left, and-right, not-right}
-use Rattle.record.specs.Held.{soundBuffer}
+use Rattle.record.specs.Buffer.{soundBuffer}
 use Rattle.record.proofs.Climbs.{ascends}
 use Rattle.record.proofs.Buffers.{Kept, kept, held-unrefused, held-climbs}
 use Rattle.clock.specs.Clock.{soundClock}

@@ -1,13 +1,13 @@
 -- Opening's order of a world: what passing it says, and that opening and replay answer by it first.
 use Prim.Native.Nat.{ℕ, _<_, _≤_}
-use mathlib.Core.Path.{_≡_, refl, sym, _∙_}
+use mathlib.Core.Path.{_≡_, refl, sym, ap, _∙_}
 use mathlib.Core.List.{List}
 use mathlib.Core.Bool.{Bool, true, false}
 use borrow.Author.Tests.{le-leb, lt-leb}
 use lib.IntN.{ℤ}
 use lib.ListN.{length}
-use Rattle.basis.specs.Numbers.{LOG, STEP, mostSteps}
-use Rattle.basis.specs.Order.{Answer, Order, answer, refused, accepted}
+use Rattle.basis.specs.Numbers.{WORLD, ROOM, LOG, STEP, mostSteps}
+use Rattle.basis.specs.Order.{Answer, Order, check, give, answer, refused, accepted}
 use Rattle.basis.proofs.Order.{held, given, gives, passes, fails, stops, goes-on, apart}
 use Rattle.record.specs.Log.{recordsOf, soundLog}
 use Rattle.yard.specs.declared.world.Yard.{Yard}
@@ -37,6 +37,37 @@ passes-say yard lengths cells boxes e =
     let d = held _ _ _ (c .1) in
     let f = held _ _ _ (d .1) in
     record { ranges = a .0; long = b .0; cell = c .0; sizes = d .0; starts = f .0 }
+
+-- Each way through it.
+module _ (yard : Yard) (lengths : Bool) (cells : List ℕ) (boxes : List ℤ) where
+  abbrev world : Answer (Unit {0})
+  world = answer (worldOrder yard lengths cells boxes)
+
+  pub no-ranges : rangesHold yard ≡ false → world ≡ refused WORLD
+  unfolding worldOrder
+  no-ranges e = fails _ _ e
+
+  module _ (ranges : rangesHold yard ≡ true) where
+    pub no-room : lengths ≡ false → world ≡ refused ROOM
+    unfolding worldOrder
+    no-room e = passes _ _ ranges ∙ fails _ _ e
+
+    module _ (long : lengths ≡ true) where
+      pub no-cells : cellsHold cells ≡ false → world ≡ refused WORLD
+      unfolding worldOrder
+      no-cells e = passes _ _ ranges ∙ passes _ _ long ∙ fails _ _ e
+
+      module _ (celled : cellsHold cells ≡ true) where
+        pub no-sizes : sizesHold yard boxes ≡ false → world ≡ refused WORLD
+        unfolding worldOrder
+        no-sizes e = passes _ _ ranges ∙ passes _ _ long ∙ passes _ _ celled ∙ fails _ _ e
+
+        pub starts-decide : sizesHold yard boxes ≡ true → {t : Bool}
+            → startsHold yard cells boxes ≡ t → world ≡ answer (check t WORLD (give tt))
+        unfolding worldOrder
+        starts-decide sized e =
+            passes _ _ ranges ∙ passes _ _ long ∙ passes _ _ celled ∙ passes _ _ sized
+            ∙ ap (λ (t : Bool). answer (check t WORLD (give tt))) e
 
 -- Opening.
 module _ (yard : Yard) (reading : ℕ) (l : Lent) where

@@ -8,11 +8,13 @@ use borrow.Author.Tests.{eq-eqb, ne-eqb, eqb-true}
 use lib.Dec.{eqb}
 use lib.IntN.{pos}
 use lib.ListN.{length, replicate, length-replicate}
+use Rattle.basis.specs.Numbers.{rowCount}
 use Rattle.basis.proofs.Tests.{and-left, and-right}
-use Rattle.record.specs.Held.{bufferSize}
+use Rattle.record.specs.Buffer.{bufferSize}
 use Rattle.yard.specs.declared.world.Yard.{Yard}
 use Rattle.yard.specs.Rule9.{rangesHold}
 use Rattle.yard.proofs.Fits.{cells-fit, boxes-fit}
+use Rattle.fleet.specs.State.{carrierWords}
 use Rattle.session.specs.Lent.{Lent}
 use Rattle.session.specs.Sound.{worldRoom, room}
 
@@ -44,7 +46,7 @@ module _ (yard : Yard) (cells boxes state : ℕ) where
     boxes-wrong h = rw (eq-eqb _ _ c, ne-eqb _ _ h)
 
     pub state-decides : boxes ≡ 4 * yard .b
-        → worldRoom yard cells boxes state ≡ eqb state (5 * yard .b)
+        → worldRoom yard cells boxes state ≡ eqb state (carrierWords * yard .b)
     unfolding worldRoom
     state-decides h = rw (eq-eqb _ _ c, eq-eqb _ _ h)
 
@@ -52,7 +54,7 @@ module _ (yard : Yard) (cells boxes state : ℕ) where
 pub record WorldRoom (yard : Yard) (c b s : ℕ) : Type 0 where
   pub cells : c ≡ yard .w * yard .h
   pub boxes : b ≡ 4 * yard .b
-  pub state : s ≡ 5 * yard .b
+  pub state : s ≡ carrierWords * yard .b
 
 pub world-room : (yard : Yard) (cells boxes state : ℕ) → worldRoom yard cells boxes state ≡ true
     → WorldRoom yard cells boxes state
@@ -60,7 +62,7 @@ unfolding worldRoom
 world-room yard cells boxes state e =
     let c = eqb cells (yard .w * yard .h) in
     let b = eqb boxes (4 * yard .b) in
-    let s = eqb state (5 * yard .b) in
+    let s = eqb state (carrierWords * yard .b) in
     let both = and-left (c && b) s e in
     record {
       cells = eqb-true _ _ (and-left c b both);
@@ -77,11 +79,12 @@ module _ (yard : Yard) (l : Lent) where
 
   module _
       (w : worldRoom yard (length (l .cells)) (length (l .boxes)) (length (l .state)) ≡ true) where
-    pub rows-wrong : (length (l .rows) ≡ 320 * yard .b → ⊥) → room yard l ≡ false
+    pub rows-wrong : (length (l .rows) ≡ rowCount * (carrierWords * yard .b) → ⊥)
+        → room yard l ≡ false
     unfolding room
     rows-wrong h = rw (w, ne-eqb _ _ h)
 
-    pub log-decides : length (l .rows) ≡ 320 * yard .b
+    pub log-decides : length (l .rows) ≡ rowCount * (carrierWords * yard .b)
         → room yard l ≡ eqb (length (l .log)) bufferSize
     unfolding room
     log-decides h = rw (w, eq-eqb _ _ h)
@@ -89,14 +92,14 @@ module _ (yard : Yard) (l : Lent) where
 -- What rule 10 whole says.
 pub record Room (yard : Yard) (l : Lent) : Type 0 where
   pub world : WorldRoom yard (length (l .cells)) (length (l .boxes)) (length (l .state))
-  pub rows : length (l .rows) ≡ 320 * yard .b
+  pub rows : length (l .rows) ≡ rowCount * (carrierWords * yard .b)
   pub log : length (l .log) ≡ bufferSize
 
 pub room-says : (yard : Yard) (l : Lent) → room yard l ≡ true → Room yard l
 unfolding room
 room-says yard l e =
     let w = worldRoom yard (length (l .cells)) (length (l .boxes)) (length (l .state)) in
-    let r = eqb (length (l .rows)) (320 * yard .b) in
+    let r = eqb (length (l .rows)) (rowCount * (carrierWords * yard .b)) in
     let g = eqb (length (l .log)) bufferSize in
     let both = and-left (w && r) g e in
     record {

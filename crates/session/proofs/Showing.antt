@@ -19,7 +19,7 @@ use Rattle.digest.specs.Words.{stateBytes}
 use Rattle.shown.specs.Answer.{shownPlace}
 use Rattle.shown.specs.declared.Place.{Place}
 use Rattle.yard.specs.declared.carrier.Carrier.{Carrier}
-use Rattle.fleet.specs.State.{carrier, soundState}
+use Rattle.fleet.specs.State.{carrier, carrierWords, soundState}
 use Rattle.session.specs.declared.Session.{Session}
 use Rattle.session.specs.Lent.{Lent, worldIn}
 use Rattle.session.specs.Sound.{sound}
@@ -59,7 +59,7 @@ module _ (session : Session) (l : Lent) where
 
       module _ (h : i < session .yard .b) where
         -- The carrier's words are in the state.
-        pub in-state : (i < 32) × (5 * i + 5 ≤ length (l .state))
+        pub in-state : (i < 32) × (carrierWords * i + carrierWords ≤ length (l .state))
         in-state =
             let g = good session l s in
             (omega (arith, carriers-most _ (g .ranges)), omega (arith, g .room .world .state))

@@ -5,10 +5,12 @@ use mathlib.Core.Path.{_≡_}
 use mathlib.Core.List.{List, List·Memᴰ}
 use lib.IntN.{ℤ}
 use lib.ListN.{length}
+use Rattle.basis.specs.Numbers.{rowCount}
 use Rattle.record.specs.Facts.{BufferValid}
 use Rattle.record.specs.declared.bytes.Record.{Record}
 use Rattle.yard.specs.declared.world.Yard.{Yard}
 use Rattle.yard.specs.Facts.{InRange, CellsValid, SizesValid, Valid}
+use Rattle.fleet.specs.State.{carrierWords}
 use Rattle.fleet.specs.Facts.{StateSound}
 use Rattle.session.specs.declared.Session.{Session}
 use Rattle.session.specs.Lent.{Lent, worldIn, heldIn}
@@ -18,12 +20,12 @@ use Rattle.session.specs.Calls.{rowIn}
 pub record Lengths (yard : Yard) (cells : List ℕ) (boxes state : List ℤ) : Type 0 where
   pub cellBytes : length cells ≡ yard .w * yard .h
   pub worldWords : length boxes ≡ 4 * yard .b
-  pub stateWords : length state ≡ 5 * yard .b
+  pub stateWords : length state ≡ carrierWords * yard .b
 
 -- Rule 10 whole: also '320·B row words, 16,384 log bytes'.
 pub record Room (yard : Yard) (l : Lent) : Type 0 where
   pub lengths : Lengths yard (l .cells) (l .boxes) (l .state)
-  pub rowWords : length (l .rows) ≡ 320 * yard .b
+  pub rowWords : length (l .rows) ≡ rowCount * (carrierWords * yard .b)
   pub logBytes : length (l .log) ≡ 16384
 
 -- 'opening's order without rows' passes this world.

@@ -4,12 +4,12 @@ use Prim.Native.Nat.{ℕ, _*_}
 use mathlib.Core.Bool.{Bool, _&&_}
 use lib.Dec.{eqb}
 use lib.ListN.{length}
-use Rattle.basis.specs.Numbers.{stepLength}
-use Rattle.record.specs.Held.{bufferSize, soundBuffer}
+use Rattle.basis.specs.Numbers.{stepLength, rowCount}
+use Rattle.record.specs.Buffer.{bufferSize, soundBuffer}
 use Rattle.clock.specs.Clock.{soundClock}
 use Rattle.yard.specs.declared.world.Yard.{Yard}
 use Rattle.yard.specs.Rule9.{rangesHold, cellsHold, sizesHold}
-use Rattle.fleet.specs.State.{soundState}
+use Rattle.fleet.specs.State.{carrierWords, soundState}
 use Rattle.session.specs.declared.Session.{Session}
 use Rattle.session.specs.Lent.{Lent, worldIn}
 
@@ -18,13 +18,13 @@ unfoldable pub worldRoom : Yard → ℕ → ℕ → ℕ → Bool
 worldRoom yard cells boxes state =
     eqb cells (yard .w * yard .h)
     && eqb boxes (4 * yard .b)
-    && eqb state (5 * yard .b)
+    && eqb state (carrierWords * yard .b)
 
 -- Rule 10 whole: also '320·B row words, 16,384 log bytes'.
 unfoldable pub room : Yard → Lent → Bool
 room yard l =
     worldRoom yard (length (l .cells)) (length (l .boxes)) (length (l .state))
-    && eqb (length (l .rows)) (320 * yard .b)
+    && eqb (length (l .rows)) (rowCount * (carrierWords * yard .b))
     && eqb (length (l .log)) bufferSize
 
 -- 'ranges and lengths as at opening; cells and sizes valid; steps, remainder and held count within

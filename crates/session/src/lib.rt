@@ -3,6 +3,7 @@
 //   sound    document 01's *Sound*, of any session and any buffers
 //   open     opening
 //   reading  a clock reading
+//   verdict  what a delivery comes to, before anything is changed
 //   deliver  a delivery, and going back
 //   replays  a log replayed from the start
 //   show     the digest, and the shown place of a carrier
@@ -13,6 +14,7 @@ mod reading;
 mod replays;
 mod show;
 mod sound;
+mod verdict;
 mod worlds;
 
 use clock::Clock;

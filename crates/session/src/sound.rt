@@ -6,7 +6,7 @@ ghost use Rattle.session.specs.Sound.{sound};
 use super::Session;
 use super::worlds::has_room;
 use fleet::state_sound;
-use record::buffer_sound;
+use record::records_sound;
 use yard::cells_hold;
 use yard::ranges_hold;
 use yard::sizes_hold;
@@ -42,7 +42,7 @@ pub fn is_sound(
     if !clock.is_sound() {
         return false;
     }
-    if !buffer_sound(log, held, yard.b) {
+    if !records_sound(log, held, yard.b) {
         return false;
     }
     state_sound(yard, cells, boxes, state)

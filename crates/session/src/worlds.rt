@@ -59,7 +59,7 @@ pub fn has_room(
     if !world_room(yard, cells.len(), boxes.len(), state.len()) {
         return false;
     }
-    if rows.len() != Rows::COUNT * State::WORDS * b {
+    if rows.len() != Rows::COUNT * (State::WORDS * b) {
         return false;
     }
     log.len() == Buffer::SIZE

@@ -1,7 +1,7 @@
--- The functions of the C face: the orders of documents 01 and 02, and the lengths that the face adds
--- to them. Each is read as an order of `session` or `record` is, from the top down: `readingFace` is
--- 14 for a session that isn't nine words, and then 14, 11, 12 of the session in them. `words` is the
--- lent session, `out` a lent slice for what is given.
+-- The functions of the C face: the orders of documents 01 and 02, and the lengths that the face
+-- adds to them. Each is read as an order of `session` or `record` is, from the top down:
+-- `readingFace` is 14 for a session that isn't nine words, and then 14, 11, 12 of the session in
+-- them. `words` is the lent session, `out` a lent slice for what is given.
 use Prim.Native.Nat.{ℕ, _+_}
 use mathlib.Core.Bool.{cond}
 use mathlib.Core.List.{List, [], _∷_}

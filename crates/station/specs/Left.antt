@@ -3,11 +3,12 @@ use Prim.Native.Nat.{ℕ}
 use mathlib.Core.List.{List, [], _∷_}
 use lib.IntN.{ℤ}
 use lib.ListN.{length}
+use Rattle.basis.specs.Filled.{Filled, fill}
 use Rattle.basis.specs.Order.{Answer, refused, accepted}
-use Rattle.record.specs.Held.{bufferOf}
+use Rattle.record.specs.Buffer.{bufferOf}
 use Rattle.record.specs.declared.bytes.Record.{Record}
 use Rattle.session.specs.Calls.{Delivery}
-use Rattle.session.specs.Lent.{Lent, Made, Filled, fill}
+use Rattle.session.specs.Lent.{Lent, Made}
 use Rattle.session.specs.declared.Session.{Session}
 use Rattle.station.specs.Words.{sessionWords}
 

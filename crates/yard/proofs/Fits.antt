@@ -12,7 +12,7 @@ use Rattle.basis.specs.Numbers.{mostCarriers}
 use Rattle.basis.proofs.Tests.{never, says-le, says-two, says-three}
 use Rattle.yard.specs.declared.world.Yard.{Yard}
 use Rattle.yard.specs.Ranges.{between, fromOne}
-use Rattle.yard.specs.World.{word, sizeOf, CellsFit, BoxesFit, SizeFits}
+use Rattle.yard.specs.Boxes.{word, sizeOf, CellsFit, BoxesFit, SizeFits}
 use Rattle.yard.specs.Free.{free}
 use Rattle.yard.specs.Rule9.{rangesHold, cellsHold, sizeHolds, sizesHold, startHolds}
 use Rattle.yard.specs.Rule9.{startsHold}

@@ -7,10 +7,10 @@ use native.Mathlib.Omega.{arith}
 use borrow.Author.Tests.{leb-true, le-leb}
 use lib.Dec.{leb}
 use lib.IntN.{ℤ, pos, negsuc, natAbs}
+use Rattle.basis.specs.declared.HeldLever.{HeldLever}
+use Rattle.basis.specs.declared.HeldLever.the-variants.{Nothing, Lever}
 use Rattle.basis.proofs.Tests.{and-both, and-left, says-le, says-four}
 use Rattle.yard.specs.declared.carrier.Carrier.{Carrier}
-use Rattle.yard.specs.declared.carrier.Held.{Held}
-use Rattle.yard.specs.declared.carrier.Held.the-variants.{Nothing, Lever}
 use Rattle.yard.specs.declared.levers.Axis.the-variants.{X, Y}
 use Rattle.yard.specs.Ranges.{between}
 use Rattle.yard.specs.Levers.{newSpeed}
@@ -71,13 +71,14 @@ module _ (free : ℤ → ℤ → Bool) (carrier : Carrier) where
   of-good g = by-lever Iff·rfl .1 (g .here, g .u, g .v, g .lever)
 
 -- Part 1 leaves a lever 0 to 9.
-pub lever-holds : (held : Held) (lever : ℤ) → LeverFits held → between (pos 0) lever (pos 9) ≡ true
+pub lever-holds : (held : HeldLever) (lever : ℤ) → LeverFits held
+    → between (pos 0) lever (pos 9) ≡ true
     → between (pos 0) (leverAfter held lever) (pos 9) ≡ true
 lever-holds Nothing lever h e = e
 lever-holds (Lever moved) lever h e = zero-to 9 moved h
 
 -- A sound carrier stays sound.
-module _ (free : ℤ → ℤ → Bool) (held : Held) (carrier : Carrier) (h : LeverFits held) where
+module _ (free : ℤ → ℤ → Bool) (held : HeldLever) (carrier : Carrier) (h : LeverFits held) where
   good-step : Good free carrier → Good free (step free held carrier)
   unfolding step
   good-step g =
@@ -108,6 +109,6 @@ rest-sound free x y h =
 
 -- Which places are free is all that a step asks.
 pub step-same : (free other : ℤ → ℤ → Bool) → ((x y : ℤ) → free x y ≡ other x y)
-    → (held : Held) (carrier : Carrier) → step free held carrier ≡ step other held carrier
+    → (held : HeldLever) (carrier : Carrier) → step free held carrier ≡ step other held carrier
 step-same free other h held carrier =
     ap (λ f. step f held carrier) (fun-ext (λ x. fun-ext (h x)))

@@ -13,7 +13,7 @@ use lib.Signed.{ltZ}
 use Rattle.basis.proofs.Tests.{never, and-both, and-left, and-right, not-left, not-right}
 use Rattle.yard.specs.declared.world.Yard.{Yard}
 use Rattle.yard.specs.declared.world.Size.{Size}
-use Rattle.yard.specs.World.{CellsFit, SizeFits}
+use Rattle.yard.specs.Boxes.{CellsFit, SizeFits}
 use Rattle.yard.specs.Free.{wall, share, covers, noWall, free}
 use Rattle.yard.specs.Search.{InBlock, Open, blockOf}
 use Rattle.yard.specs.Facts.{Clear, FreeAt}

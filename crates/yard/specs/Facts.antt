@@ -8,7 +8,7 @@ use lib.IntN.{ℤ, pos, negsuc}
 use lib.ListN.{getD, length}
 use Rattle.yard.specs.declared.world.Yard.{Yard}
 use Rattle.yard.specs.declared.world.Size.{Size}
-use Rattle.yard.specs.World.{word, sizeOf}
+use Rattle.yard.specs.Boxes.{word, sizeOf}
 
 -- No 'W, H or B out of range': 'each of W and H from 1 to 64', 'B carriers, 1 to 32'.
 pub record InRange (yard : Yard) : Type 0 where

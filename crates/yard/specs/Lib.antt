@@ -1,6 +1,6 @@
 -- The yard of document 01. Read in this order:
 --   Ranges      minus, ranges of whole numbers, a test of every number below a bound
---   World       the carriers' words and sizes; what fits the functions over a world
+--   Boxes       the carriers' words and sizes; what fits the functions over a world
 --   Free        walls, what the box covers, and where a carrier is free
 --   Rule9       rule 9: ranges, cells, sizes, starts
 --   Facts       where a carrier is free, and rule 9, as plain facts
@@ -11,7 +11,7 @@
 --   Statements  what is claimed of these; proofs/Statements.antt has a proof of each
 --   Search      for contracts of parts only: what the search of the covered cells answers
 pub mod Ranges
-pub mod World
+pub mod Boxes
 pub mod Free
 pub mod Rule9
 pub mod Facts

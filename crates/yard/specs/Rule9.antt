@@ -8,7 +8,7 @@ use lib.ListN.{getD, length}
 use Rattle.basis.specs.Numbers.{mostCarriers}
 use Rattle.yard.specs.declared.world.Yard.{Yard}
 use Rattle.yard.specs.Ranges.{between, fromOne, every}
-use Rattle.yard.specs.World.{word, sizeOf}
+use Rattle.yard.specs.Boxes.{word, sizeOf}
 use Rattle.yard.specs.Free.{free}
 
 -- No 'W, H or B out of range': 'each of W and H from 1 to 64', 'B carriers, 1 to 32'.

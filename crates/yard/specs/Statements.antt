@@ -7,13 +7,13 @@ use mathlib.Core.List.{List}
 use lib.IntN.{ℤ, natAbs}
 use lib.ListN.{length}
 use Rattle.basis.specs.Order.{Determines}
+use Rattle.basis.specs.declared.HeldLever.{HeldLever}
 use Rattle.yard.specs.declared.world.Yard.{Yard}
 use Rattle.yard.specs.declared.world.Size.{Size}
 use Rattle.yard.specs.declared.levers.Axis.{Axis}
 use Rattle.yard.specs.declared.carrier.Carrier.{Carrier}
-use Rattle.yard.specs.declared.carrier.Held.{Held}
 use Rattle.yard.specs.Ranges.{every}
-use Rattle.yard.specs.World.{CellsFit}
+use Rattle.yard.specs.Boxes.{CellsFit}
 use Rattle.yard.specs.Free.{free}
 use Rattle.yard.specs.Rule9.{rangesHold, cellsHold, sizesHold, startsHold}
 use Rattle.yard.specs.Facts.{InRange, CellsValid, FromTo, SizesValid, FreeAt, StartsFree}
@@ -95,8 +95,8 @@ pub record Step : Type 0 where
   pub rest : (free : ℤ → ℤ → Bool) (x y : ℤ) → free x y ≡ true
       → soundCarrier free (atRest x y) ≡ true
   -- A sound carrier stays sound: free, speeds within 200 either way, lever 0 to 9.
-  pub stays : (free : ℤ → ℤ → Bool) (held : Held) (carrier : Carrier) → LeverFits held
+  pub stays : (free : ℤ → ℤ → Bool) (held : HeldLever) (carrier : Carrier) → LeverFits held
       → soundCarrier free carrier ≡ true → soundCarrier free (step free held carrier) ≡ true
   -- Which places are free is all that a step asks of the yard.
   pub same : (free other : ℤ → ℤ → Bool) → ((x y : ℤ) → free x y ≡ other x y)
-      → (held : Held) (carrier : Carrier) → step free held carrier ≡ step other held carrier
+      → (held : HeldLever) (carrier : Carrier) → step free held carrier ≡ step other held carrier

@@ -3,22 +3,22 @@
 use Prim.Native.Nat.{_≤_}
 use mathlib.Core.Bool.{Bool, _&&_}
 use lib.IntN.{ℤ, pos, natAbs}
+use Rattle.basis.specs.declared.HeldLever.{HeldLever}
+use Rattle.basis.specs.declared.HeldLever.the-variants.{Nothing, Lever}
 use Rattle.yard.specs.declared.levers.Axis.the-variants.{X, Y}
 use Rattle.yard.specs.declared.slide.Moved.{Moved}
 use Rattle.yard.specs.declared.carrier.Carrier.{Carrier}
-use Rattle.yard.specs.declared.carrier.Held.{Held}
-use Rattle.yard.specs.declared.carrier.Held.the-variants.{Nothing, Lever}
 use Rattle.yard.specs.Ranges.{minus, between}
 use Rattle.yard.specs.Levers.{newSpeed}
 use Rattle.yard.specs.Slide.{slide}
 
 -- Part 1: 'If a record for (t, carrier) is held, the lever becomes that record's.'
-abbrev pub leverAfter : Held → ℤ → ℤ
+abbrev pub leverAfter : HeldLever → ℤ → ℤ
 leverAfter Nothing lever = lever
 leverAfter (Lever moved) lever = pos moved
 
 -- Parts 1 to 4: 'along x with the new u and the old y', 'along y .. with the new v and the new x'.
-unfoldable pub step : (ℤ → ℤ → Bool) → Held → Carrier → Carrier
+unfoldable pub step : (ℤ → ℤ → Bool) → HeldLever → Carrier → Carrier
 step free held carrier =
     let lever : ℤ = leverAfter held (carrier .lever) in
     let u : ℤ = newSpeed X (natAbs lever) (carrier .u) in
@@ -46,6 +46,6 @@ abbrev pub atRest : ℤ → ℤ → Carrier
 atRest x y = record { x = x; y = y; u = pos 0; v = pos 0; lever = pos 0 }
 
 -- Rule 4 has passed the record that is held: its lever is 0 to 9.
-abbrev pub LeverFits : Held → Type 0
+abbrev pub LeverFits : HeldLever → Type 0
 LeverFits Nothing = Unit {0}
 LeverFits (Lever moved) = moved ≤ 9

@@ -1,7 +1,7 @@
 // 'One step' of one carrier, parts 1 to 4, and the state rule.
 ghost use mathlib.Core.Path.{_≡_};
 ghost use mathlib.Core.Bool.{true};
-ghost use Rattle.yard.specs.World.{CellsFit, SizeFits};
+ghost use Rattle.yard.specs.Boxes.{CellsFit, SizeFits};
 ghost use Rattle.yard.specs.Free.{free};
 ghost use Rattle.yard.specs.Step.{leverAfter, LeverFits, step, soundCarrier};
 use super::levers::Axis;
@@ -13,6 +13,7 @@ use super::words::is_between;
 use super::words::magnitude;
 use super::world::Size;
 use super::world::Yard;
+use basis::HeldLever;
 
 // The five state words of a carrier.
 pub struct Carrier {
@@ -23,24 +24,18 @@ pub struct Carrier {
     pub lever: i32,
 }
 
-// The record held for a step and a carrier: its lever, or nothing.
-pub enum Held {
-    Nothing,
-    Lever(u8),
-}
-
 // Part 1.
-fn lever_after(held: Held, lever: i32) -> i32
+fn lever_after(held: HeldLever, lever: i32) -> i32
     ensures part { λ r. ⌜ r ≡ leverAfter held lever ⌝ }
 {
     match held {
-        Held::Nothing => lever,
-        Held::Lever(moved) => moved as i32,
+        HeldLever::Nothing => lever,
+        HeldLever::Lever(moved) => moved as i32,
     }
 }
 
 // One step of a sound carrier.
-pub fn step(yard: Yard, cells: &[u8], size: Size, held: Held, carrier: Carrier) -> Carrier
+pub fn step(yard: Yard, cells: &[u8], size: Size, held: HeldLever, carrier: Carrier) -> Carrier
     requires laid { ⌜ CellsFit yard (now cells) ⌝ }
     requires sized { ⌜ SizeFits size ⌝ }
     requires table { ⌜ LeverFits held ⌝ }

@@ -9,7 +9,6 @@ mod words;
 mod world;
 
 pub use carrier::Carrier;
-pub use carrier::Held;
 pub use carrier::is_sound;
 pub use carrier::step;
 pub use place::is_free;

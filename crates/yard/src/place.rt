@@ -3,7 +3,7 @@ ghost use mathlib.Core.Path.{_≡_};
 ghost use Prim.Native.Nat.{_+_, _*_, _^_, _≤_, _<_};
 ghost use lib.IntN.{pos};
 ghost use lib.ListN.{length};
-ghost use Rattle.yard.specs.World.{CellsFit, SizeFits};
+ghost use Rattle.yard.specs.Boxes.{CellsFit, SizeFits};
 ghost use Rattle.yard.specs.Free.{free};
 ghost use Rattle.yard.specs.Search.{FirstWall, Finds, blockOf};
 use super::words::magnitude;

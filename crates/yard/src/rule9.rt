@@ -4,7 +4,7 @@ ghost use mathlib.Core.Bool.{true};
 ghost use Prim.Native.Nat.{_+_, _*_, _≤_, _<_};
 ghost use lib.ListN.{length};
 ghost use Rattle.yard.specs.Ranges.{fromOne};
-ghost use Rattle.yard.specs.World.{CellsFit, BoxesFit, SizeFits, sizeOf};
+ghost use Rattle.yard.specs.Boxes.{CellsFit, BoxesFit, SizeFits, sizeOf};
 ghost use Rattle.yard.specs.Rule9.{sizeHolds, sizesHold, startHolds, startsHold};
 ghost use Rattle.yard.specs.Says.{RangesHoldSays, CellsHoldSays};
 use super::place::is_free;

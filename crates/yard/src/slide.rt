@@ -3,7 +3,7 @@ ghost use mathlib.Core.Path.{_≡_};
 ghost use mathlib.Core.Bool.{true};
 ghost use Prim.Native.Nat.{_≤_};
 ghost use lib.IntN.{natAbs};
-ghost use Rattle.yard.specs.World.{CellsFit, SizeFits};
+ghost use Rattle.yard.specs.Boxes.{CellsFit, SizeFits};
 ghost use Rattle.yard.specs.Free.{free};
 ghost use Rattle.yard.specs.Slide.{toward, clearOn, distance, slide};
 use super::levers::Axis;

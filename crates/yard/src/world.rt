@@ -2,7 +2,7 @@
 ghost use mathlib.Core.Path.{_≡_};
 ghost use Prim.Native.Nat.{_+_, _*_, _≤_, _<_};
 ghost use lib.ListN.{length};
-ghost use Rattle.yard.specs.World.{word, sizeOf};
+ghost use Rattle.yard.specs.Boxes.{word, sizeOf};
 use super::words::magnitude;
 
 // W by H cells, B carriers.

@@ -1,15 +1,13 @@
-//! 'Going back': late records, repeats, orders, the log when it is full, and replay.
+//! 'Going back': late records, repeats, orders, and the log when it is full.
 
-use super::session::{replay, title, Session};
+use super::session::{title, Session};
 use super::Paper;
-use crate::worlds::record;
 
 pub fn write(paper: &Paper) {
     window(paper);
     held(paper);
     orders(paper);
     full(paper);
-    replays(paper);
 }
 
 /// 100 steps made, and the carrier on its way.
@@ -61,20 +59,4 @@ fn full(paper: &Paper) {
     let k = k.deliver(35, 0, 1).deliver(36, 0, 1).reading(2_100_000);
     k.digest();
     k.replay(105);
-}
-
-fn replays(paper: &Paper) {
-    title(paper, "replay: the program's two examples, 13, and 13 before 5");
-    let [first, second] = [record(0, 0, 1), record(2, 0, 9)];
-    let two = [&first[..], &second].concat();
-    let descending = [&second[..], &first].concat();
-    replay(paper, 3, &two);
-    replay(paper, 0, &[]);
-    replay(paper, 2, &two);
-    replay(paper, 180_000, &two);
-    replay(paper, 180_001, &two);
-    replay(paper, 3, &first[..7]);
-    replay(paper, 3, &record(0, 1, 1));
-    replay(paper, 3, &descending);
-    replay(paper, 180_001, &record(0, 0, 10));
 }

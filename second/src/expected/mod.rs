@@ -4,16 +4,16 @@
 //! `cargo run --release --no-default-features --bin expected` writes the files of [`OUTPUTS`].
 
 mod answers;
+mod digest;
 mod late;
-mod logs;
 mod pair;
-mod practice;
 mod program;
+mod record;
 mod refused;
+mod replays;
 mod session;
 mod station;
 mod time;
-mod vectors;
 
 use crate::Station;
 use std::cell::RefCell;
@@ -22,10 +22,9 @@ use std::path::{Path, PathBuf};
 
 /// Each file, and the parts that it has, in its order.
 const OUTPUTS: &[(&str, &[Part])] = &[
-    ("crates/logs/stdout", &[logs::write]),
-    ("crates/vectors/stdout", &[vectors::write]),
-    ("crates/practice/stdout", &[practice::write]),
-    ("crates/late_test/stdout", &[late::write, pair::write]),
+    ("crates/record_test/stdout", &[record::write]),
+    ("crates/digest_test/stdout", &[digest::write]),
+    ("crates/late_test/stdout", &[late::write, pair::write, replays::write]),
     ("crates/time_test/stdout", &[time::write]),
     ("crates/refused_test/stdout", &[refused::write]),
     ("second/examples/station.out", &[station::write]),

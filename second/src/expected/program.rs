@@ -29,7 +29,7 @@ fn past_the_last(station: &dyn Station, log: &[u8]) -> u32 {
 }
 
 /// `steps N` and a line for each carrier, after so many steps in the practice yard.
-pub fn replayed(station: &dyn Station, log: &[u8], steps: u32) -> Option<String> {
+fn replayed(station: &dyn Station, log: &[u8], steps: u32) -> Option<String> {
     let world = World::practice();
     let mut buffers = world.lend();
     let number = station.replay(world.shape, steps, &mut Lent::of(&mut buffers), log);

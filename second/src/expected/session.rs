@@ -1,7 +1,7 @@
-//! A session whose calls write a line each, as `crates/desk` does.
+//! A session whose calls write a line each, as `crates/test_desk` does.
 
 use super::answers::refusal;
-use super::vectors::bytes_of;
+use super::digest::bytes_of;
 use super::Paper;
 use crate::act::Buffers;
 use crate::model::fnv1a;
@@ -30,13 +30,16 @@ pub fn title(paper: &Paper, text: &str) {
     paper.line(format_args!("# {text}"));
 }
 
-/// A log replayed in the practice yard: the digest is of the steps and the state.
+/// A log replayed in the practice yard: the state's words, and the digest of the steps and them.
 pub fn replay(paper: &Paper, steps: u32, log: &[u8]) {
     let world = World::practice();
     let mut lent = sevens(&world);
     let before = lent.state.clone();
     let answer = match paper.station.replay(world.shape, steps, &mut Lent::of(&mut lent), log) {
-        DONE => format!(" digest {:08x}", digest_of(steps, &lent.state)),
+        DONE => {
+            let words: String = lent.state.iter().map(|word| format!(" {word}")).collect();
+            format!("{words}, digest {:08x}", digest_of(steps, &lent.state))
+        }
         number => refusal(number),
     };
     let same = digest_of(steps, &before) == digest_of(steps, &lent.state);

@@ -11,7 +11,8 @@ use Rattle.one_log.proofs.main.Tie as tie
 
 -- What was read lies within its buffer.
 within-one : (c : tie.After-known-told)
-    → c .before .m .given .0 .0 ≤ length (c .before .before .before .before .read-argument .last .1 .0)
+    → c .before .m .given .0 .0
+    ≤ length (c .before .before .before .before .read-argument .last .1 .0)
 within-one c =
     let read = c .before .before .before .before .read-argument in
     subst (λ r. ReadIn r (read .last .1 .0)) (c .before .m .given .1) (read .ensures)

@@ -35,7 +35,8 @@ abbrev Says : tie.After-merge-logs → Merged → Type 0
 Says m r = MergeLogsSays mostCarriers (one m) (two m) (out m) (filled r (after m))
 
 merges : (c : tie.After-known-told)
-    → Says (c .before .before .before .before .before) (merged.Count (c .before .count .given .0 .0))
+    → Says (c .before .before .before .before .before)
+    (merged.Count (c .before .count .given .0 .0))
 merges c =
     let m = c .before .before .before .before .before in
     ap (λ (r : Merged). filled r (after m)) (sym (c .before .count .given .1))

@@ -4,7 +4,7 @@ use denote.Ref.{now}
 use Rattle.basis.specs.Order.{Answer, refused, accepted, answer}
 use Rattle.rerun.specs.Rerun.{End, endedOf, programOrder}
 use Rattle.rerun.specs.Text.{linesOf, programText}
-use Rattle.rerun.specs.declared.practice.Ended.{Ended}
+use Rattle.rerun.specs.declared.ended.Ended.{Ended}
 use borrow.Author.Needs.{needs}
 use Rattle.rerun.proofs.program.Statement.{statement}
 use Rattle.rerun.proofs.program.Tie as tie

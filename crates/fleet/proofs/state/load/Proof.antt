@@ -5,7 +5,7 @@ use lib.ListN.{getD}
 use lib.IntN.{pos}
 use denote.Ref.{now}
 use borrow.Author.Needs.{needs}
-use Rattle.fleet.specs.State.{carrier}
+use Rattle.fleet.specs.State.{carrier, carrierWords}
 use Rattle.yard.proofs.Signed.{got}
 use Rattle.fleet.proofs.state.load.Statement.{statement}
 use Rattle.fleet.proofs.state.load.Tie as tie
@@ -60,7 +60,7 @@ unfolding carrier
 returns c =
     let s = c .before .before .before .before .before in
     let state = now (s .args .state) in
-    let at = 5 * s .args .i in
+    let at = carrierWords * s .args .i in
     simp (
       add-zero at,
       got (getD state at (pos 0)) (c .before .before .before .before .t6 .given),

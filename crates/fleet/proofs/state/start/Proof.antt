@@ -8,13 +8,14 @@ use denote.Ref.{now}
 use borrow.Author.Needs.{needs}
 use Rattle.fleet.proofs.Words.{start-on}
 use Rattle.yard.proofs.Signed.{got}
-use Rattle.fleet.specs.State.{startTo}
+use Rattle.fleet.specs.State.{startTo, carrierWords}
 use Rattle.fleet.proofs.state.start.Statement.{statement}
 use Rattle.fleet.proofs.state.start.Tie as tie
 
 abbrev Inv-loop : tie.InvT-loop
 Inv-loop boxes state₀ b i₀ state i =
-    (i ≤ b) × (length state ≡ length state₀) × (state ≡ startTo boxes i ++ drop (5 * i) state₀)
+    (i ≤ b) × (length state ≡ length state₀)
+    × (state ≡ startTo boxes i ++ drop (carrierWords * i) state₀)
 
 abbrev μ-loop : tie.MeasureT-loop
 μ-loop boxes state₀ b i₀ state i = b - i
@@ -69,7 +70,10 @@ returns c =
     let s = l .before .before in
     let all : l .loop .i ≡ s .args .yard .b = omega arith in
     l .loop .inv .2
-    ∙ rw (all, drop-of-length-le (now (s .args .state)) {i = 5 * s .args .yard .b} (omega arith))
+    ∙ rw (
+      all,
+      drop-of-length-le (now (s .args .state)) {i = carrierWords * s .args .yard .b} (omega arith),
+    )
     (append-nil _)
 
 pub start-spec : {M : Type 1} → statement M

@@ -1,15 +1,12 @@
 -- `state::state_sound` meets its contract.
-use Prim.Native.Nat.{ℕ, _-_, _<_, _≤_}
-use mathlib.Core.Path.{_≡_, sym, _∙_}
-use mathlib.Core.Bool.{true}
-use native.Mathlib.Omega.{arith}
+use Prim.Native.Nat.{_-_, _≤_}
+use mathlib.Core.Path.{_≡_, _∙_}
 use denote.Ref.{now}
-use borrow.Author.Count.{below-none, below-more}
+use borrow.Author.Count.{below-none}
 use borrow.Author.Needs.{needs}
 use Rattle.fleet.specs.State.{carrier, freeFor, soundState, worldOf}
 use Rattle.yard.proofs.Fits.{sizes-fit}
-use Rattle.yard.proofs.Every.{all-pass, one-fails}
-use Rattle.yard.proofs.Cases.{passed, failed}
+use Rattle.yard.proofs.Every.{Below, stops, goes-on, ends}
 use Rattle.yard.specs.Step.{soundCarrier}
 use Rattle.fleet.proofs.state.state_sound.Statement.{statement}
 use Rattle.fleet.proofs.state.state_sound.Tie as tie
@@ -17,8 +14,7 @@ use Rattle.fleet.proofs.state.state_sound.Tie as tie
 abbrev Inv-loop : tie.InvT-loop
 Inv-loop yard cells boxes state b i₀ i =
     (i ≤ b)
-    × ((k : ℕ) → k < i
-    → soundCarrier (freeFor (worldOf yard cells boxes) k state) (carrier k state) ≡ true)
+    × Below (λ k. soundCarrier (freeFor (worldOf yard cells boxes) k state) (carrier k state)) i
 
 abbrev μ-loop : tie.MeasureT-loop
 μ-loop yard cells boxes state b i₀ i = b - i
@@ -56,9 +52,7 @@ is-sound-requires c κs =
 
 returns : tie.Need-returns Inv-loop μ-loop
 unfolding soundState
-returns c =
-    sym (one-fails _ _ (c .before .before .before .before .before .loop .i) (search needs)
-    (failed (tested (c .before)) (c .if1 .taken)))
+returns c = stops _ (search needs) (tested (c .before)) (c .if1 .taken)
 
 add-i : tie.Need-add-i Inv-loop μ-loop
 add-i c = search needs
@@ -67,15 +61,13 @@ loop-less : tie.Need-loop-less Inv-loop μ-loop
 loop-less c = search needs
 
 loop-again : tie.Need-loop-again Inv-loop μ-loop
-loop-again c = (
-  search needs,
-  below-more _ _ (c .before .before .before .before .before .loop .inv .1)
-      (passed (tested (c .before)) (c .if1 .left)),
-)
+loop-again c =
+    let t = c .before in
+    (search needs, goes-on _ (t .before .before .before .before .loop .inv .1) (tested t) (c .if1 .left))
 
 returns-2 : tie.Need-returns-2 Inv-loop μ-loop
 unfolding soundState
-returns-2 c = sym (all-pass _ _ (λ k l. c .before .loop .inv .1 k (omega arith)))
+returns-2 c = ends _ (c .before .loop .inv .1) (search needs)
 
 pub state-sound-spec : {M : Type 1} → statement M
 state-sound-spec =

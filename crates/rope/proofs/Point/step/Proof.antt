@@ -1,5 +1,5 @@
 -- `step` meets its contract: a law for each way out of it. The loop's invariant: the counted forces
--- are finite exactly where those from `i` on are, and their sum is the one so far, with those added.
+-- are finite exactly where those from `i` on are, and their sum is the one so far with those added.
 use Prim.Native.Nat.{_≤_, _-_}
 use mathlib.Core.Path.{_≡_, refl, sym, ap, _∙_}
 use mathlib.Core.Bool.{true}

@@ -35,7 +35,7 @@ given n = record { clock = n .next .given .0 .0; due = n .next .given .0 .1 .0 }
 gave : (n : tie.After-next)
     → let s = start (n .before .before .before) in
     answer (clockOrder stepLength (s .args .self .clock) (s .args .reading)) ≡ accepted (given n)
-gave n = sym (n .before .before .read .ensures) ∙ ap clockAnswer (n .next .given .1)
+gave n = sym (n .before .before .tick .ensures) ∙ ap clockAnswer (n .next .given .1)
 
 fits : (n : tie.After-next)
     → start (n .before .before .before) .args .self .clock .steps + given n .due ≤ mostSteps
@@ -57,8 +57,8 @@ returns : tie.Need-returns
 unfolding readingOrder
 returns c = sym (ap (leaves _) (fails _ _ (failed (c .before .is-sound .ensures) (c .if1 .taken))))
 
-read-requires : tie.Need-read-requires
-read-requires c κs = search needs
+tick-requires : tie.Need-tick-requires
+tick-requires c κs = good _ (mem (start c)) (ok c) .clock
 
 enum-known-number : tie.Need-enum-known-number
 enum-known-number c = search needs
@@ -70,10 +70,10 @@ cast-from : tie.Need-cast-from
 cast-from c = omega (arith, fits (c .before .before))
 
 cast-run-saving : tie.Need-cast-run-saving
-cast-run-saving c = omega (arith, fits (c .before .before))
+cast-run-saving c = omega (arith, fits (c .before .before .before .before))
 
 add-run-saving : tie.Need-add-run-saving
-add-run-saving c = omega (arith, fits (c .before .before))
+add-run-saving c = omega (arith, fits (c .before .before .before .before))
 
 run-saving-requires : tie.Need-run-saving-requires
 run-saving-requires c κs =
@@ -102,7 +102,7 @@ returns-2 c =
     sym
     (ap (leaves _)
     (clock-refuses (s .args .self) (mem s) (s .args .reading) (ok (r .before)) _
-    (sym (r .read .ensures) ∙ ap clockAnswer (c .before .number .given .1))))
+    (sym (r .tick .ensures) ∙ ap clockAnswer (c .before .number .given .1))))
 
 same-length-5 : tie.Need-same-length-5
 same-length-5 c = search needs
@@ -130,7 +130,7 @@ reading-spec =
     same-length
     same-length-2
     returns
-    read-requires
+    tick-requires
     enum-known-number
     enum-known-next
     cast-from

@@ -44,11 +44,13 @@ is-sound-requires c κs = search needs
 returns-5 : tie.Need-returns-5
 returns-5 c = sym (bad-clock _ _ (failed (c .before .is-sound .ensures) (c .if5 .taken)))
 
-buffer-sound-requires : tie.Need-buffer-sound-requires
-buffer-sound-requires c κs = search needs
+records-sound-requires : tie.Need-records-sound-requires
+records-sound-requires c κs =
+    let l2 = c .before .before .before .before .before .before in
+    room-says _ _ (passed (l2 .before .has-room .ensures) (l2 .if2 .left)) .log
 
 returns-6 : tie.Need-returns-6
-returns-6 c = sym (bad-buffer _ _ (failed (c .before .buffer-sound .ensures) (c .if6 .taken)))
+returns-6 c = sym (bad-buffer _ _ (failed (c .before .records-sound .ensures) (c .if6 .taken)))
 
 state-sound-requires : tie.Need-state-sound-requires
 state-sound-requires c κs =
@@ -80,7 +82,7 @@ returns-7 c =
       passed (l3 .before .cells-hold .ensures) (l3 .if3 .left),
       passed (l4 .before .sizes-hold .ensures) (l4 .if4 .left),
       passed (l5 .before .is-sound .ensures) (l5 .if5 .left),
-      passed (l6 .before .buffer-sound .ensures) (l6 .if6 .left),
+      passed (l6 .before .records-sound .ensures) (l6 .if6 .left),
     )
     (c .state-sound .ensures)
 
@@ -98,7 +100,7 @@ is-sound-spec =
     returns-4
     is-sound-requires
     returns-5
-    buffer-sound-requires
+    records-sound-requires
     returns-6
     state-sound-requires
     returns-7)

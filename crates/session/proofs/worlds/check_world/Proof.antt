@@ -1,14 +1,16 @@
 -- `worlds::check_world` meets its contract.
-use mathlib.Core.Bool.{true}
-use mathlib.Core.Path.{_≡_}
+use mathlib.Core.Bool.{Bool, true}
+use mathlib.Core.Path.{_≡_, sym}
 use denote.Ref.{now}
 use borrow.Author.Needs.{needs}
 use borrow.Author.Tests.{not-true, not-false}
-use Rattle.basis.specs.Order.{answer}
-use Rattle.yard.specs.Rule9.{rangesHold, cellsHold, sizesHold}
+use Rattle.basis.specs.Numbers.{WORLD}
+use Rattle.basis.specs.Order.{check, give, answer}
+use Rattle.yard.specs.Rule9.{rangesHold, cellsHold, sizesHold, startsHold}
 use Rattle.yard.proofs.Cases.{passed, failed}
 use Rattle.yard.proofs.Fits.{cells-fit, boxes-fit}
 use Rattle.session.specs.Calls.{worldOrder}
+use Rattle.session.proofs.Openings.{no-ranges, no-room, no-cells, no-sizes, starts-decide}
 use Rattle.session.proofs.worlds.check_world.Statement.{statement}
 use Rattle.session.proofs.worlds.check_world.Tie as tie
 
@@ -26,31 +28,26 @@ long e = not-false _ (e .if2 .left)
 celled : (e : tie.Else3) → cellsHold (now (start (e .before .before .before) .args .cells)) ≡ true
 celled e = passed (e .before .cells-hold .ensures) (e .if3 .left)
 
+abbrev second : tie.Else4 → tie.Else2
+second e = e .before .before .before .before
+
 sized : (e : tie.Else4)
-    → let s = start (e .before .before .before .before .before) in
+    → let s = start (second e .before) in
     sizesHold (s .args .yard) (now (s .args .boxes)) ≡ true
 sized e = passed (e .before .sizes-hold .ensures) (e .if4 .left)
 
-ranges-hold-requires : tie.Need-ranges-hold-requires
-ranges-hold-requires c κs = search needs
-
 returns : tie.Need-returns
-unfolding worldOrder answer
-returns c = rw (failed (c .before .ranges-hold .ensures) (c .if1 .taken))
+returns c = sym (no-ranges _ _ _ _ (failed (c .before .ranges-hold .ensures) (c .if1 .taken)))
 
 returns-2 : tie.Need-returns-2
-unfolding worldOrder answer
-returns-2 c =
-    rw (in-range (c .before), not-true (start (c .before) .args .lengths) (c .if2 .taken))
-
-cells-hold-requires : tie.Need-cells-hold-requires
-cells-hold-requires c κs = search needs
+returns-2 c = sym (no-room _ _ _ _ (in-range (c .before)) (not-true _ (c .if2 .taken)))
 
 returns-3 : tie.Need-returns-3
-unfolding worldOrder answer
 returns-3 c =
     let e = c .before .before in
-    rw (in-range (e .before), long e, failed (c .before .cells-hold .ensures) (c .if3 .taken))
+    sym
+    (no-cells _ _ _ _ (in-range (e .before)) (long e)
+    (failed (c .before .cells-hold .ensures) (c .if3 .taken)))
 
 sizes-hold-requires : tie.Need-sizes-hold-requires
 sizes-hold-requires c κs =
@@ -58,61 +55,49 @@ sizes-hold-requires c κs =
     boxes-fit _ (in-range (e .before)) _ (start (e .before) .pre (long e) .1)
 
 returns-4 : tie.Need-returns-4
-unfolding worldOrder answer
 returns-4 c =
     let third = c .before .before in
     let e = third .before .before in
-    rw (
-      in-range (e .before),
-      long e,
-      celled third,
-      failed (c .before .sizes-hold .ensures) (c .if4 .taken),
-    )
+    sym
+    (no-sizes _ _ _ _ (in-range (e .before)) (long e) (celled third)
+    (failed (c .before .sizes-hold .ensures) (c .if4 .taken)))
 
 starts-hold-requires : tie.Need-starts-hold-requires
 starts-hold-requires c κs =
-    let e = c .before .before .before .before in
+    let e = second c in
     let room = start (e .before) .pre (long e) in (
       cells-fit _ (in-range (e .before)) _ (room .0),
       (boxes-fit _ (in-range (e .before)) _ (room .1), sized c),
     )
 
+-- The starts decide.
+decided : (h : tie.After-starts-hold) {t : Bool}
+    → let s = start (second (h .before) .before) in
+    startsHold (s .args .yard) (now (s .args .cells)) (now (s .args .boxes)) ≡ t
+    → answer (worldOrder (s .args .yard) (s .args .lengths) (now (s .args .cells))
+    (now (s .args .boxes)))
+    ≡ answer (check t WORLD (give tt))
+decided h =
+    let e = h .before in
+    starts-decide _ _ _ _ (in-range (second e .before)) (long (second e))
+    (celled (e .before .before)) (sized e)
+
 returns-5 : tie.Need-returns-5
-unfolding worldOrder answer
-returns-5 c =
-    let fourth = c .before .before in
-    let third = fourth .before .before in
-    let e = third .before .before in
-    rw (
-      in-range (e .before),
-      long e,
-      celled third,
-      sized fourth,
-      failed (c .before .starts-hold .ensures) (c .if5 .taken),
-    )
+unfolding answer
+returns-5 c = sym (decided (c .before) (failed (c .before .starts-hold .ensures) (c .if5 .taken)))
 
 returns-6 : tie.Need-returns-6
-unfolding worldOrder answer
-returns-6 c =
-    let fourth = c .before .before in
-    let third = fourth .before .before in
-    let e = third .before .before in
-    rw (
-      in-range (e .before),
-      long e,
-      celled third,
-      sized fourth,
-      passed (c .before .starts-hold .ensures) (c .if5 .left),
-    )
+unfolding answer
+returns-6 c = sym (decided (c .before) (passed (c .before .starts-hold .ensures) (c .if5 .left)))
 
 pub check-world-spec : {M : Type 1} → statement M
 check-world-spec =
     tie.close
     (tie.spec
-    ranges-hold-requires
+    (λ c κs. search needs)
     returns
     returns-2
-    cells-hold-requires
+    (λ c κs. search needs)
     returns-3
     sizes-hold-requires
     returns-4

@@ -3,9 +3,9 @@ use mathlib.Core.List.{[], _∷_}
 use mathlib.Core.Path.{sym, ap, _∙_}
 use denote.Ref.{now}
 use borrow.Author.Tests.{eq-eqb, ne-eqb}
+use Rattle.basis.specs.Filled.{filled}
 use Rattle.basis.proofs.Order.{passes, fails, gives}
 use Rattle.station.specs.Face.{stepRecordsFace}
-use Rattle.session.specs.Lent.{filled}
 use Rattle.station.specs.Left.{fills, DONE}
 use Rattle.station.proofs.Stores.{stores}
 use borrow.Author.Needs.{needs}
@@ -20,8 +20,8 @@ unfolding stepRecordsFace
 returns c =
     rw (c .wide .ensures) (sym (ap (fills _) (fails _ _ (ne-eqb _ _ (c .before .if1 .taken)))))
 
-part-of-requires : tie.Need-part-of-requires
-part-of-requires c κs = search needs
+step-part-requires : tie.Need-step-part-requires
+step-part-requires c κs = search needs
 
 slice-write-out : tie.Need-slice-write-out
 slice-write-out c = search needs
@@ -35,12 +35,12 @@ same-length c = search needs
 returns-2 : tie.Need-returns-2
 unfolding stepRecordsFace
 returns-2 c =
-    let p = c .part-of in
+    let p = c .step-part in
     let out = now (c .before .before .before .before .args .out) in
     let long = c .before .if1 .left in
     ap (filled DONE)
     (stores out (p .result .start ∷ p .result .end ∷ []) long)
-    ∙ rw (p .ensures .0, p .ensures .1)
+    ∙ rw (p .ensures)
     (sym (ap (fills out) (passes _ _ (eq-eqb _ _ long) ∙ gives _)))
 
 pub wuthracomb-step-records-spec : {M : Type 1} → statement M
@@ -49,7 +49,7 @@ wuthracomb-step-records-spec =
     (tie.spec
     wide-requires
     returns
-    part-of-requires
+    step-part-requires
     slice-write-out
     slice-write-out-2
     same-length

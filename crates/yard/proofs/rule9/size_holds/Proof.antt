@@ -3,7 +3,7 @@ use borrow.Author.Needs.{needs}
 use mathlib.Core.Path.{_≡_, sym, ap, _∙_}
 use lib.IntN.{pos}
 use Rattle.yard.specs.Ranges.{between}
-use Rattle.yard.specs.World.{word}
+use Rattle.yard.specs.Boxes.{word}
 use Rattle.yard.specs.Rule9.{sizeHolds}
 use Rattle.yard.proofs.Signed.{got, test-is}
 use Rattle.yard.proofs.rule9.size_holds.Statement.{statement}

@@ -1,20 +1,15 @@
 -- `starts_hold` meets its contract. Invariant: every start passed is free.
-use Prim.Native.Nat.{ℕ, _-_, _<_, _≤_}
-use mathlib.Core.Path.{_≡_, sym}
-use mathlib.Core.Bool.{true}
-use native.Mathlib.Omega.{arith}
-use borrow.Author.Count.{below-none, below-more}
+use Prim.Native.Nat.{_-_, _≤_}
+use borrow.Author.Count.{below-none}
 use borrow.Author.Needs.{needs}
 use Rattle.yard.specs.Rule9.{startHolds, startsHold}
-use Rattle.yard.proofs.Cases.{passed, failed}
-use Rattle.yard.proofs.Every.{all-pass, one-fails}
+use Rattle.yard.proofs.Every.{Below, stops, goes-on, ends}
 use Rattle.yard.proofs.Fits.{sizes-fit}
 use Rattle.yard.proofs.rule9.starts_hold.Statement.{statement}
 use Rattle.yard.proofs.rule9.starts_hold.Tie as tie
 
 abbrev Inv-loop : tie.InvT-loop
-Inv-loop yard cells boxes b i₀ i =
-    (i ≤ b) × ((k : ℕ) → k < i → startHolds yard cells boxes k ≡ true)
+Inv-loop yard cells boxes b i₀ i = (i ≤ b) × Below (startHolds yard cells boxes) i
 
 abbrev μ-loop : tie.MeasureT-loop
 μ-loop yard cells boxes b i₀ i = b - i
@@ -32,9 +27,7 @@ start-holds-requires c κs =
 
 returns : tie.Need-returns Inv-loop μ-loop
 unfolding startsHold
-returns c =
-    let i = c .before .before .before .loop .i in
-    sym (one-fails _ _ i (search needs) (failed (c .before .start-holds .ensures) (c .if1 .taken)))
+returns c = stops _ (search needs) (c .before .start-holds .ensures) (c .if1 .taken)
 
 add-i : tie.Need-add-i Inv-loop μ-loop
 add-i c = search needs
@@ -44,12 +37,12 @@ loop-less c = search needs
 
 loop-again : tie.Need-loop-again Inv-loop μ-loop
 loop-again c =
-    let holds = passed (c .before .start-holds .ensures) (c .if1 .left) in
-    (search needs, below-more _ _ (c .before .before .before .loop .inv .1) holds)
+    let t = c .before in
+    (search needs, goes-on _ (t .before .before .loop .inv .1) (t .start-holds .ensures) (c .if1 .left))
 
 returns-2 : tie.Need-returns-2 Inv-loop μ-loop
 unfolding startsHold
-returns-2 c = sym (all-pass _ _ (λ k l. c .before .loop .inv .1 k (omega arith)))
+returns-2 c = ends _ (c .before .loop .inv .1) (search needs)
 
 pub starts-hold-spec : {M : Type 1} → statement M
 starts-hold-spec =

@@ -1,6 +1,6 @@
 -- `Size::at` meets its contract.
 use borrow.Author.Needs.{needs}
-use Rattle.yard.specs.World.{sizeOf}
+use Rattle.yard.specs.Boxes.{sizeOf}
 use Rattle.yard.proofs.Signed.{got}
 use Rattle.yard.proofs.world.Size.at.Statement.{statement}
 use Rattle.yard.proofs.world.Size.at.Tie as tie
