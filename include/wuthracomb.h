@@ -54,8 +54,9 @@
    ascending by step, then carrier; no header, at most 2,048 records.
 
    Levers.  In a step each speed grows by the lever's push and is cut to the
-   range -200 to 200; lever 9 is the brake, which halves both speeds, rounded
-   toward zero.  A lever stays where it is until another record moves it.
+   range -200 to 200; lever 9 is the brake, which takes 10 off each speed, toward
+   zero and never past it.  A lever stays where it is until another record moves
+   it.
 
      lever     0    1    2    3    4    5    6    7    8
      along x   0   12    8    0   -8  -12   -8    0    8

@@ -65,7 +65,40 @@ fn f_and_g_speeds() {
 
         let mut desk = carrier(other, [100, 256, -3, 1, 9]);
         desk.reading(20_000);
-        assert_eq!(desk.state(), [99, 256, -1, 0, 9]);
+        assert_eq!(desk.state(), [100, 256, 0, 0, 9]);
+    }
+}
+
+/// "25 becomes 15, then 5, then 0; -3 becomes 0" (02 §2).
+#[test]
+fn the_brake_takes_ten() {
+    for other in others() {
+        let mut desk = carrier(other, [100, 256, 25, -3, 9]);
+        for (t, [x, u]) in [[115, 15], [120, 5], [120, 0], [120, 0]].into_iter().enumerate() {
+            desk.reading(20_000 * (t as u64 + 1));
+            assert_eq!(desk.state(), [x, 256, u, 0, 9]);
+        }
+    }
+}
+
+/// Every speed under the brake, along x and along y, in a yard where nothing is in the way.
+#[test]
+fn the_brake_at_every_speed() {
+    let shape = Shape { w: 9, h: 9, b: 1 };
+    let world = World { shape, cells: vec![0; 81], boxes: vec![1024, 1024, 256, 256] };
+    for other in others() {
+        let mut desk = Desk::open(other, &world, 0);
+        desk.keep();
+        for speed in -200..=200i32 {
+            let left = (speed.abs() - 10).max(0) * speed.signum();
+            for (u, v) in [(speed, 0), (0, speed), (speed, speed), (speed, -speed)] {
+                desk.restore();
+                desk.put(Slice::State, 2, &[u, v, 9].map(i64::from));
+                assert_eq!(desk.reading(20_000), DONE);
+                let [u, v] = [u, v].map(|of| left * speed.signum() * of.signum());
+                assert_eq!(desk.state(), [1024 + u, 1024 + v, u, v, 9]);
+            }
+        }
     }
 }
 
@@ -177,7 +210,7 @@ fn program_by_replay() {
     for other in others() {
         let mut desk = Desk::lend(other, &World::practice());
         assert_eq!(desk.replay(3, &log), DONE);
-        assert_eq!(desk.state(), [48, 256, 12, 0, 9]);
+        assert_eq!(desk.state(), [50, 256, 14, 0, 9]);
         assert_eq!(desk.replay(0, &[]), DONE);
         assert_eq!(desk.state(), [0, 256, 0, 0, 0]);
     }

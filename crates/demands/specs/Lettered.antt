@@ -72,8 +72,8 @@ pub record Lettered : Type 0 where
   pub e : inPractice (Lever 1) (at 0 256 (pos 0) (pos 0) 0) ≡ at 12 256 (pos 12) (pos 0) 1
   -- 'F: u 195, lever 1: 200.'
   pub f : inPractice Nothing (at 0 256 (pos 195) (pos 0) 1) ≡ at 200 256 (pos 200) (pos 0) 1
-  -- 'G: brake on -3 gives -1, on 1 gives 0.'
-  pub g : (newSpeed X 9 (minus 3) ≡ minus 1) × (newSpeed X 9 (pos 1) ≡ pos 0)
+  -- 'G: brake on -3 .. on 1 ..': 'both give 0' (02 §2).
+  pub g : (newSpeed X 9 (minus 3) ≡ pos 0) × (newSpeed X 9 (pos 1) ≡ pos 0)
   -- 'H: practice yard, carrier at (500, 256), u 0, lever 1: x 512, u 12.'
   pub h : inPractice Nothing (at 500 256 (pos 0) (pos 0) 1) ≡ at 512 256 (pos 12) (pos 0) 1
   -- 'I: next step: x 512, u 0.'

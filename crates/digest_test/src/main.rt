@@ -48,7 +48,7 @@ fn four_bytes() {
 // What the two runs of document 01, 'The program', end in.
 fn states() {
     state(b"steps 0, state 0 256 0 0 0", 0, &[0, 256, 0, 0, 0]);
-    state(b"steps 3, state 48 256 12 0 9", 3, &[48, 256, 12, 0, 9]);
+    state(b"steps 3, state 50 256 14 0 9", 3, &[50, 256, 14, 0, 9]);
 }
 
 // A text, and the same with the zero byte that ends it in C, as a digest continued.

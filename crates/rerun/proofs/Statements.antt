@@ -25,6 +25,7 @@ use Rattle.fleet.specs.State.{carrier, wordsOf, put, freeFor, startTo}
 use Rattle.fleet.specs.Step.{stepOne, stepTo, stepAll}
 use Rattle.record.specs.Buffer.{leverAt}
 use Rattle.fleet.specs.Examples.{practice}
+use Rattle.rerun.specs.Ascii.{ascii}
 use Rattle.rerun.specs.Rerun.{End, stepsPast, programOrder}
 use Rattle.rerun.specs.Statements.{Program, Examples}
 use Rattle.rerun.specs.Text.{decimalTo, wordText, wordsText, linesOf}
@@ -84,5 +85,5 @@ pub examples : Examples
 unfolding programOrder answer soundLog readOrder limitsOrder wellFormed recordOf precedes stepsPast
     run stepAll stepTo stepOne carrier wordsOf put freeFor startTo leverAt sizeOf
     step newSpeed pushOf cutSpeed brake slide distance walk clearOn toward free noWall covers share
-    wall every decimalTo wordText wordsText linesOf
+    wall every decimalTo wordText wordsText linesOf ascii
 examples = record { brake = refl; empty = refl; refused = refl }

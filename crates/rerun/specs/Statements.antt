@@ -2,7 +2,7 @@
 use Prim.Native.Nat.{ℕ, _+_, _<_, _≤_}
 use mathlib.Core.Path.{_≡_}
 use mathlib.Core.Bool.{true, false}
-use mathlib.Core.List.{List, [], _∷_}
+use mathlib.Core.List.{List, [], _∷_, _++_}
 use lib.IntN.{ℤ}
 use lib.ListN.{length, take}
 use Rattle.basis.specs.Numbers.{LOG, mostSteps}
@@ -12,6 +12,7 @@ use Rattle.record.specs.Log.{recordsOf, soundLog}
 use Rattle.session.specs.Calls.{replayOrder}
 use Rattle.fleet.specs.State.{stateWords}
 use Rattle.fleet.specs.Examples.{practice, twoRecords}
+use Rattle.rerun.specs.Ascii.{line}
 use Rattle.rerun.specs.Rerun.{End, stepsPast, endOf, programOrder}
 use Rattle.rerun.specs.Text.{programText}
 
@@ -43,17 +44,10 @@ pub record Program : Type 0 where
 
 -- 'Program, .. output whole'.
 pub record Examples : Type 0 where
-  -- 'records (0, 0, 1) and (2, 0, 9)': `steps 3`, then `0 48 256 12 0 9`.
+  -- 'records (0, 0, 1) and (2, 0, 9)'; 'the program's example, which now ends' so (02 §2).
   pub brake : programText (answer (programOrder twoRecords))
-      ≡
-      115 ∷ 116 ∷ 101 ∷ 112 ∷ 115 ∷ 32 ∷ 51 ∷ 10 ∷ 48 ∷ 32 ∷ 52 ∷ 56 ∷ 32 ∷ 50 ∷ 53 ∷ 54 ∷ 32 ∷
-      49 ∷ 50 ∷ 32 ∷ 48 ∷ 32 ∷ 57 ∷ 10 ∷ []
+      ≡ line "steps 3" ++ line "0 50 256 14 0 9"
   -- 'Empty input: `steps 0`, then `0 0 256 0 0 0`.'
-  pub empty : programText (answer (programOrder []))
-      ≡
-      115 ∷ 116 ∷ 101 ∷ 112 ∷ 115 ∷ 32 ∷ 48 ∷ 10 ∷ 48 ∷ 32 ∷ 48 ∷ 32 ∷ 50 ∷ 53 ∷ 54 ∷ 32 ∷ 48 ∷
-      32 ∷ 48 ∷ 32 ∷ 48 ∷ 10 ∷ []
-  -- The one line `refused 13`: a log of one byte.
-  pub refused : programText (answer (programOrder (0 ∷ [])))
-      ≡
-      114 ∷ 101 ∷ 102 ∷ 117 ∷ 115 ∷ 101 ∷ 100 ∷ 32 ∷ 49 ∷ 51 ∷ 10 ∷ []
+  pub empty : programText (answer (programOrder [])) ≡ line "steps 0" ++ line "0 0 256 0 0 0"
+  -- 'the one line `refused 13`': a log of one byte.
+  pub refused : programText (answer (programOrder (0 ∷ []))) ≡ line "refused 13"

@@ -9,6 +9,7 @@ use Rattle.basis.specs.Order.{Answer, refused, accepted}
 use Rattle.fleet.specs.State.{carrierWords}
 use Rattle.session.specs.declared.Replayed.{Replayed}
 use Rattle.session.specs.declared.Replayed.the-variants as replayed
+use Rattle.rerun.specs.Ascii.{ascii}
 use Rattle.rerun.specs.Rerun.{End}
 
 -- A number in decimal, of at most so many digits: its last digit stands last.
@@ -38,17 +39,9 @@ stateRoom = wordRoom * carrierWords
 abbrev pub textRoom : ℕ
 textRoom = 50 + stateRoom
 
--- `steps `
-abbrev pub stepsText : List ℕ
-stepsText = 115 ∷ 116 ∷ 101 ∷ 112 ∷ 115 ∷ 32 ∷ []
-
 -- The end of the line, and then the number of carrier 0.
 abbrev pub carrierText : List ℕ
-carrierText = 10 ∷ 48 ∷ []
-
--- `refused `
-abbrev pub refusedText : List ℕ
-refusedText = 114 ∷ 101 ∷ 102 ∷ 117 ∷ 115 ∷ 101 ∷ 100 ∷ 32 ∷ []
+carrierText = 10 ∷ ascii "0"
 
 -- A text with the words of a state after it.
 unfoldable pub wordsText : List ℕ → List ℤ → List ℕ
@@ -63,10 +56,10 @@ wordsText text state =
 -- '`steps N`, then a line `carrier x y u v lever` for each carrier'; or the one line `refused N`.
 unfoldable pub linesOf : Replayed → ℕ → List ℤ → List ℕ
 linesOf (replayed.Done) steps state =
-    wordsText (stepsText ++ decimal steps ++ carrierText) state
+    wordsText (ascii "steps " ++ decimal steps ++ carrierText) state
     ++ (10 ∷ [])
 linesOf (replayed.Refused number) steps state =
-    refusedText
+    ascii "refused "
     ++ decimal number
     ++ (10 ∷ [])
 

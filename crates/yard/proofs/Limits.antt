@@ -1,5 +1,5 @@
 -- Laws of levers and speeds: every push is within 12, every new speed within 200.
-use Prim.Native.Nat.{ℕ, zero, suc, _/_, _≤_}
+use Prim.Native.Nat.{ℕ, zero, suc, _≤_}
 use mathlib.Core.Path.{_≡_, refl}
 use mathlib.Core.Bool.{Bool, true, _&&_}
 use mathlib.Core.List.{List, [], _∷_}
@@ -8,16 +8,13 @@ use borrow.Author.Tests.{ltb-false, leb-true}
 use lib.Dec.{leb, ltb, eqb}
 use lib.IntN.{ℤ, pos, negsuc, natAbs}
 use lib.ListN.{getD}
-use lib.Signed.{mag, quotZ}
-use mir.Syntax.{w32}
-use mir.Val.{SFits}
 use Rattle.basis.proofs.Tests.{and-left, and-right}
 use Rattle.yard.specs.declared.levers.Axis.{Axis}
 use Rattle.yard.specs.declared.levers.Axis.the-variants.{X, Y}
 use Rattle.yard.specs.declared.levers.Push.{Push}
-use Rattle.yard.specs.Levers.{along, push, pushes, pushOf, cutSpeed, brake, newSpeed}
+use Rattle.yard.specs.Levers.{along, push, pushes, pushOf, cutSpeed, newSpeed}
 use Rattle.yard.proofs.Cases.{of-cond}
-use Rattle.yard.proofs.Signed.{abs-neg, mag≤abs}
+use Rattle.yard.proofs.Brake.{abs-brake}
 
 -- A test that every entry of a list passes, as does what stands for a missing one, at any index.
 abbrev all : {A : Type 0} → (A → Bool) → List A → Bool
@@ -57,27 +54,10 @@ cut-within (negsuc n) =
     of-cond (λ z. natAbs z ≤ 200) (ltb 199 n) (λ e. omega arith)
     (λ e. omega (arith, ltb-false 199 n e))
 
--- The brake makes no speed larger.
-abs-half : (z : ℤ) → natAbs (quotZ z (pos 2)) ≡ natAbs z / 2
-abs-half (pos n) = refl
-abs-half (negsuc n) = abs-neg (pos (suc n / 2))
-
-mag-half : (z : ℤ) → natAbs z / 2 ≤ mag z
-mag-half (pos n) = omega arith
-mag-half (negsuc n) = omega arith
-
-pub half-fits : {z : ℤ} → SFits w32 z → SFits w32 (quotZ z (pos 2))
-half-fits {z} f =
-    record { sfits = omega (arith, f, mag-half z, abs-half z, mag≤abs (quotZ z (pos 2))) }
-
-brake-within : (z : ℤ) → natAbs (brake z) ≤ natAbs z
-unfolding brake
-brake-within z = omega (arith, abs-half z)
-
 -- A new speed is within 200 where the old one is.
 pub speed-within : (axis : Axis) (lever : ℕ) (old : ℤ) → natAbs old ≤ 200
     → natAbs (newSpeed axis lever old) ≤ 200
 unfolding newSpeed
 speed-within axis lever old h =
-    of-cond (λ z. natAbs z ≤ 200) (eqb lever 9) (λ e. omega (arith, brake-within old))
+    of-cond (λ z. natAbs z ≤ 200) (eqb lever 9) (λ e. omega (arith, abs-brake old))
     (λ e. cut-within _)

@@ -1,7 +1,17 @@
 -- The statements of specs/Statements.antt, proved.
 use mathlib.Core.Path.{refl}
 use Rattle.basis.proofs.Order.{one-result}
-use Rattle.yard.specs.Statements.{Determined, Free, Rule9, Every, Table, Move, Step}
+use Rattle.yard.specs.Statements.{
+  Determined,
+  Free,
+  Rule9,
+  Every,
+  Table,
+  Brake,
+  Move,
+  Step,
+}
+use Rattle.yard.proofs.Brake.{ten, past, forward, backward, stands, from-25, from-minus-3}
 use Rattle.yard.proofs.Every.{passes, all-pass}
 use Rattle.yard.proofs.Fits.{ranges, cells, sizes, starts}
 use Rattle.yard.proofs.Limits.{push-within, speed-within}
@@ -28,6 +38,18 @@ every = record { means = λ test n. (passes test n, all-pass test n) }
 
 pub table : Table
 table = record { nine = refl; push = push-within; speed = speed-within }
+
+pub brake : Brake
+brake =
+    record {
+      ten = ten;
+      past = past;
+      forward = forward;
+      backward = backward;
+      stands = stands;
+      from25 = from-25;
+      fromMinus3 = from-minus-3;
+    }
 
 pub move : Move
 move = record { walked = walked; only = only }

@@ -1,11 +1,11 @@
 -- Document 01, 'Levers', and part 2 of 'One step': the pushes, the cut and the brake.
-use Prim.Native.Nat.{ℕ}
+use Prim.Native.Nat.{ℕ, zero, suc}
 use mathlib.Core.Bool.{cond}
 use mathlib.Core.List.{List, [], _∷_}
 use lib.Dec.{eqb}
-use lib.IntN.{ℤ, pos, _+ℤ_}
+use lib.IntN.{ℤ, pos, _+ℤ_, _-ℤ_}
 use lib.ListN.{getD}
-use lib.Signed.{ltZ, quotZ}
+use lib.Signed.{ltZ}
 use Rattle.yard.specs.declared.levers.Axis.{Axis}
 use Rattle.yard.specs.declared.levers.Axis.the-variants.{X, Y}
 use Rattle.yard.specs.declared.levers.Push.{Push}
@@ -44,9 +44,20 @@ cutSpeed speed =
     cond (ltZ speed (minus 200)) (minus 200)
     (cond (ltZ (pos 200) speed) (pos 200) speed)
 
--- 'divided by 2, rounded toward zero'
+-- What the brake takes off a speed in a step (02 §2).
+abbrev pub brakeUnits : ℕ
+brakeUnits = 10
+
+-- 'The brake takes 10 units off each speed per step, toward zero, and never past it' (02 §2).
 unfoldable pub brake : ℤ → ℤ
-brake old = quotZ old (pos 2)
+brake speed =
+    cond (ltZ (pos brakeUnits) speed) (speed -ℤ pos brakeUnits)
+    (cond (ltZ speed (minus brakeUnits)) (speed +ℤ pos brakeUnits) (pos 0))
+
+-- A speed after so many steps of braking.
+unfoldable pub braked : ℕ → ℤ → ℤ
+braked zero speed = speed
+braked (suc steps) speed = brake (braked steps speed)
 
 -- Part 2: 'for levers 0 to 8 old speed plus push, then cut ..; for lever 9 as above.'
 unfoldable pub newSpeed : Axis → ℕ → ℤ → ℤ

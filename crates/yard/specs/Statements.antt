@@ -4,21 +4,22 @@ use mathlib.Core.Path.{_≡_}
 use mathlib.Core.Logic.{_↔_}
 use mathlib.Core.Bool.{Bool, true, false}
 use mathlib.Core.List.{List}
-use lib.IntN.{ℤ, natAbs}
+use lib.IntN.{ℤ, pos, natAbs}
 use lib.ListN.{length}
+use lib.Signed.{_≤ℤ_}
 use Rattle.basis.specs.Order.{Determines}
 use Rattle.basis.specs.declared.HeldLever.{HeldLever}
 use Rattle.yard.specs.declared.world.Yard.{Yard}
 use Rattle.yard.specs.declared.world.Size.{Size}
 use Rattle.yard.specs.declared.levers.Axis.{Axis}
 use Rattle.yard.specs.declared.carrier.Carrier.{Carrier}
-use Rattle.yard.specs.Ranges.{every}
+use Rattle.yard.specs.Ranges.{every, minus}
 use Rattle.yard.specs.Boxes.{CellsFit}
 use Rattle.yard.specs.Free.{free}
 use Rattle.yard.specs.Rule9.{rangesHold, cellsHold, sizesHold, startsHold}
 use Rattle.yard.specs.Facts.{InRange, CellsValid, FromTo, SizesValid, FreeAt, StartsFree}
 use Rattle.yard.specs.Says.{RangesHoldSays, CellsHoldSays, MagnitudeSays}
-use Rattle.yard.specs.Levers.{along, pushes, pushOf, newSpeed}
+use Rattle.yard.specs.Levers.{along, pushes, pushOf, newSpeed, brake, braked}
 use Rattle.yard.specs.Slide.{clearOn, distance}
 use Rattle.yard.specs.Step.{LeverFits, atRest, step, soundCarrier}
 
@@ -64,6 +65,23 @@ pub record Table : Type 0 where
   -- A new speed is within 200 either way where the old one is.
   pub speed : (axis : Axis) (lever : ℕ) (old : ℤ) → natAbs old ≤ 200
       → natAbs (newSpeed axis lever old) ≤ 200
+
+-- 'The brake takes 10 units off each speed per step, toward zero, and never past it' (02 §2).
+pub record Brake : Type 0 where
+  -- 'takes 10 units off': exactly 10, of a speed of 10 or more either way.
+  pub ten : (speed : ℤ) → 10 ≤ natAbs speed → natAbs (brake speed) + 10 ≡ natAbs speed
+  -- 'never past it': a smaller one becomes 0.
+  pub past : (speed : ℤ) → natAbs speed ≤ 10 → brake speed ≡ pos 0
+  -- 'toward zero': no speed grows or changes its sign.
+  pub forward : (speed : ℤ) → pos 0 ≤ℤ speed → (pos 0 ≤ℤ brake speed) × (brake speed ≤ℤ speed)
+  pub backward : (speed : ℤ) → speed ≤ℤ pos 0 → (speed ≤ℤ brake speed) × (brake speed ≤ℤ pos 0)
+  -- Any speed within 200 either way is 0 after 20 steps of braking, or before.
+  pub stands : (speed : ℤ) → natAbs speed ≤ 200 → (steps : ℕ) → 20 ≤ steps
+      → braked steps speed ≡ pos 0
+  -- '25 becomes 15, then 5, then 0; -3 becomes 0.'
+  pub from25 : (braked 1 (pos 25) ≡ pos 15) × (braked 2 (pos 25) ≡ pos 5)
+      × (braked 3 (pos 25) ≡ pos 0)
+  pub fromMinus3 : braked 1 (minus 3) ≡ pos 0
 
 -- Parts 3 and 4 of 'One step': so many units are moved, whatever places are free.
 pub record Walked (free : ℤ → ℤ → Bool) (axis : Axis) (speed x y : ℤ) (units : ℕ) : Type 0 where

@@ -46,6 +46,9 @@ impl Speed {
     pub const LEAST: i32 = -200;
 
     pub const MOST: i32 = 200;
+
+    // What the brake takes off.
+    pub const BRAKE: i32 = 10;
 }
 
 // The table at levers 0 to 8.
@@ -71,11 +74,18 @@ fn pushed_speed(old: i32, push: i32) -> i32
     speed
 }
 
-// Lever 9.
+// Lever 9: 'toward zero, and never past it' (02 §2).
 fn brake_speed(old: i32) -> i32
-    ensures half { λ r. ⌜ r ≡ brake old ⌝ }
+    requires small { ⌜ natAbs old ≤ 200 ⌝ }
+    ensures braked { λ r. ⌜ r ≡ brake old ⌝ }
 {
-    old / 2
+    if Speed::BRAKE < old {
+        return old - Speed::BRAKE;
+    }
+    if old < -Speed::BRAKE {
+        return old + Speed::BRAKE;
+    }
+    0
 }
 
 // Part 2, along one axis.

@@ -29,7 +29,7 @@ const FOUR_BYTES: [[u8; 4]; 3] =
     [[0xff, 0x00, 0x00, 0x01], [0x01, 0x00, 0x00, 0xff], [0xcc, 0x24, 0x31, 0xc4]];
 
 /// Steps made, and the words of a state.
-const STATES: [(u32, [i32; 5]); 2] = [(0, [0, 256, 0, 0, 0]), (3, [48, 256, 12, 0, 9])];
+const STATES: [(u32, [i32; 5]); 2] = [(0, [0, 256, 0, 0, 0]), (3, [50, 256, 14, 0, 9])];
 
 pub fn write(paper: &Paper) {
     for text in TEXTS {

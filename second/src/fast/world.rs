@@ -4,6 +4,8 @@ use super::log::MOST_CARRIERS;
 
 const UNITS_SHIFT: u32 = 8;
 const SPEED: i32 = 200;
+/// What the brake takes off a speed, at most all of it.
+const BRAKE: i32 = 10;
 
 const PUSHES: [[i32; 2]; 9] =
     [[0, 0], [12, 0], [8, 8], [0, 12], [-8, 8], [-12, 0], [-8, -8], [0, -12], [8, -8]];
@@ -101,7 +103,7 @@ fn lines(start: i32, len: i32) -> [i32; 2] {
 fn new_speeds(lever: i32, u: i32, v: i32) -> [i32; 2] {
     match PUSHES.get(lever as usize) {
         Some([x, y]) => [(u + x).clamp(-SPEED, SPEED), (v + y).clamp(-SPEED, SPEED)],
-        None => [u / 2, v / 2],
+        None => [u, v].map(|speed| speed - speed.clamp(-BRAKE, BRAKE)),
     }
 }
 

@@ -1,5 +1,6 @@
 -- `lines` meets its contract.
 use native.Mathlib.Omega.{arith}
+use Rattle.rerun.specs.Ascii.{ascii}
 use Rattle.rerun.specs.Text.{linesOf}
 use borrow.Author.Needs.{needs}
 use Rattle.rerun.proofs.text.lines.Statement.{statement}
@@ -60,7 +61,7 @@ same-length : tie.Need-same-length
 same-length c = search needs
 
 returns : tie.Need-returns
-unfolding linesOf
+unfolding linesOf ascii
 returns c =
     let e5 = c .before .before in
     let e4 = e5 .before .before .before .before .before in
@@ -90,7 +91,7 @@ same-length-2 : tie.Need-same-length-2
 same-length-2 c = search needs
 
 returns-2 : tie.Need-returns-2
-unfolding linesOf
+unfolding linesOf ascii
 returns-2 c =
     let e3 = c .before .before in
     let e2 = e3 .before .before .before .before .before in
