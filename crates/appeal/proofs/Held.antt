@@ -37,13 +37,13 @@ use Rattle.course.proofs.Kept.{Kept, kept-next}
 use Rattle.course.proofs.Records.{same-log}
 use Rattle.session.proofs.Room.{carriers-most}
 use Rattle.yard.proofs.Fits.{ranges}
-use Rattle.appeal.specs.Delivered.{deliveredBy, EndsAsReplay}
 use Rattle.demands.specs.Handed.{deliveryAnswer, heldBy}
 use Rattle.demands.proofs.Demand2.{demand2}
 use Rattle.demands.proofs.Demand3.{answered}
 use Rattle.demands.proofs.Model.{Opens, model, lawful}
 use Rattle.demands.proofs.Sessions.{same-next}
 use Rattle.demands.proofs.Ties.{handed, mapped, asDelivered, same-records}
+use Rattle.appeal.specs.Delivered.{deliveredBy, EndsAsReplay}
 
 -- What is in a list, and what stands before it if a test holds.
 module _ {x r : Record} {P : Type 0} {l : List Record} where

@@ -2,8 +2,7 @@
 use Prim.Native.Nat.{ℕ, _*_}
 use mathlib.Core.Path.{_≡_, sym, ap, subst, _∙_}
 use mathlib.Core.Logic.{_↔_, inr, ⊎-elim, Iff·symm, Iff·trans}
-use mathlib.Core.List.{List, List·Memᴰ}
-use mathlib.Core.List.{List·Memᴰ·not-nil}
+use mathlib.Core.List.{List, List·Memᴰ, List·Memᴰ·not-nil}
 use lib.ListN.{length, take}
 use Rattle.basis.specs.Filled.{Filled, filled}
 use Rattle.record.specs.Log.{records, logOf}
@@ -17,14 +16,13 @@ use Rattle.fleet.specs.State.{World}
 use Rattle.course.specs.Calls.{Call, sessionAfter}
 use Rattle.course.specs.Session.{Session, opening}
 use Rattle.course.proofs.Kept.{kept-opening}
-use Rattle.appeal.specs.Delivered.{deliveredBy, EndsAsReplay}
-use Rattle.appeal.specs.Statements.{Appeal}
-use Rattle.demands.specs.Handed.{Handed, sessionIn, Reached, heldBy}
-use Rattle.demands.specs.Handed.{heldPart}
+use Rattle.demands.specs.Handed.{Handed, sessionIn, Reached, heldBy, heldPart}
 use Rattle.demands.proofs.Demand2.{demand2}
 use Rattle.demands.proofs.Model.{model, lawful}
 use Rattle.demands.proofs.Sessions.{opened-words, modelled}
 use Rattle.demands.proofs.Ties.{same-records}
+use Rattle.appeal.specs.Delivered.{deliveredBy, EndsAsReplay}
+use Rattle.appeal.specs.Statements.{Appeal}
 use Rattle.appeal.proofs.Held.{both-iff, held-after, ends, merged-as}
 
 -- Of a session as in demand 3: the model's records, what was delivered, and its log.
