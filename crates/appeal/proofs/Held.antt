@@ -10,6 +10,7 @@ use Rattle.basis.specs.Filled.{filled}
 use Rattle.basis.specs.LittleEndian.{Bytes}
 use Rattle.basis.specs.Numbers.{mostCarriers}
 use Rattle.basis.specs.Order.{Answer, refused, accepted, isAccepted}
+use Rattle.basis.proofs.Order.{mapped}
 use Rattle.basis.proofs.Tests.{never}
 use Rattle.record.specs.Buffer.{bufferSize, bufferOf}
 use Rattle.record.specs.Log.{records, recordsOf, logOf}
@@ -42,7 +43,7 @@ use Rattle.demands.proofs.Demand2.{demand2}
 use Rattle.demands.proofs.Demand3.{answered}
 use Rattle.demands.proofs.Model.{Opens, model, lawful}
 use Rattle.demands.proofs.Sessions.{same-next}
-use Rattle.demands.proofs.Ties.{handed, mapped, asDelivered, same-records}
+use Rattle.demands.proofs.Ties.{handed, asDelivered, same-records}
 use Rattle.appeal.specs.Delivered.{deliveredBy, EndsAsReplay}
 
 -- What is in a list, and what stands before it if a test holds.
