@@ -1,15 +1,13 @@
-# Proves and builds the program, one run at a time in a checkout. A part of wuthracomb, which calls
-# it in the checkout's folder.
+# Proves and builds a program, one run at a time in a checkout. A part of wuthracomb, which calls it
+# in the checkout's folder.
 
-program=target/bin/rerun
-hash=$program.sha256
-
-# build: the program is there, proved, and just as rt built it. What rt builds is known by its hash;
-# a program that is not that is removed, with the mark by which rt would pass it over.
+# build CRATE: its program is there, proved, and just as rt built it. What rt builds is known by its
+# hash; a program that is not that is removed, with the mark by which rt would pass it over.
 build() {
+    name=$1 program=target/bin/$1 hash=target/bin/$1.sha256
     lock
     if ! fits; then
-        rm -rf "$program" "$hash" target/stamp/rerun ||
+        rm -rf "$program" "$hash" "target/stamp/$name" ||
             stop "a damaged program can't be removed: $home/$program"
     fi
     prove
@@ -37,7 +35,7 @@ lock() {
 # prove: rt proves and builds what is stale, and meanwhile it is said which crate is being proved.
 prove() {
     begin_watch
-    await rt check rerun 3< /dev/null > "$scratch/rt"
+    await rt check "$name" 3< /dev/null > "$scratch/rt"
     ended=$?
     end_watch
     [ "$ended" -le 128 ] || stop "rt $(how "$ended"); what is proved stays proved"

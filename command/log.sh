@@ -17,10 +17,11 @@ take_in_log() {
     od -An -v -tu1 "$scratch/input" > "$scratch/bytes" || stop "the log's bytes can't be read"
 }
 
-# reason CARRIERS: the first thing in the log that rule 13 refuses; nothing where the log is sound.
+# reason CARRIERS [BYTES]: the first thing in the log, or in the log with these bytes, that rule 13
+# refuses; nothing where it is sound.
 reason() {
     awk -v carriers="$1" -f "$home/command/record.awk" -f "$home/command/bytes.awk" \
-        -f "$home/command/reason.awk" "$scratch/bytes"
+        -f "$home/command/reason.awk" "${2:-$scratch/bytes}"
 }
 
 # print_log: what can be read of the log, then what is wrong with it.

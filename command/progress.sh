@@ -3,7 +3,7 @@
 
 # begin_watch: from here on `watch` runs beside this run.
 begin_watch() {
-    crates=$(in_order rerun)
+    crates=$(in_order "$name")
     count=$(printf '%s\n' "$crates" | wc -l | tr -d ' ')
     for crate in $crates; do rm -f "target/log/$crate.say"; done
     began=$(date +%s)

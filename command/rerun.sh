@@ -7,16 +7,17 @@ rerun() {
     open_input
     take_in_log
     cd "$home" || stop "its own folder can't be entered: $home"
-    build
-    run_program
+    build rerun
+    run_program 3< "$scratch/input"
+    take_result
     [ "$option" = no ] || add_sum
     give "$scratch/out"
     ! grep -q '^refused 13$' "$scratch/out" || say_why
 }
 
-# run_program: what the program writes for the log goes to `$scratch/out`, and is a result.
+# run_program WORD..: what the program writes, its input on 3, goes to `$scratch/out`. It ended well.
 run_program() {
-    as_rt_does "$program" 3< "$scratch/input" > "$scratch/out"
+    as_rt_does "$program" "$@" > "$scratch/out"
     ended=$?
     case $ended in
     0) ;;
@@ -24,12 +25,16 @@ run_program() {
     *) stop "the program $(how "$ended"), so there is no result" ;;
     esac
     why=$(cause < "$scratch/said")
+}
+
+# take_result: what the program wrote is a result.
+take_result() {
     [ -s "$scratch/out" ] || stop "the program wrote no result${why:+: $why}"
     is_result "$scratch/out" ||
         stop "the program wrote no whole result: $(tr '\000\n' '  ' < "$scratch/out")"
 }
 
-# as_rt_does PROGRAM: runs it as rt does, with the kit's loader and C library, and on a processor
+# as_rt_does PROGRAM WORD..: runs it as rt does, with the kit's loader and C library, and on a processor
 # other than x86-64 with the kit's emulator. Nothing of the environment reaches it.
 as_rt_does() {
     kit=$(rt doc)
@@ -37,7 +42,7 @@ as_rt_does() {
     emulator=$tools/bin/qemu-x86_64
     [ -x "$emulator" ] || emulator=''
     await env -i ${emulator:+"$emulator"} \
-        "$tools/lib/ld-linux-x86-64.so.2" --library-path "$tools/lib" "$1"
+        "$tools/lib/ld-linux-x86-64.so.2" --library-path "$tools/lib" "$@"
 }
 
 # how STATUS: how a command ended.

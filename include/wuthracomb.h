@@ -2,8 +2,9 @@
 
    A yard of box-shaped carriers run in steps of 20,000 microseconds, a log of
    lever records, late records by going back, and replay of a log; beside them
-   the hanging load and the rope ends of document 02.  Documents 01 and 02
-   decide what every call does; this file says how C calls it.
+   the merging of two logs, the hanging load and the rope ends of document 02.
+   Documents 01 and 02 decide what every call does; this file says how C calls
+   it.
 
    Every function ends for any numbers and any bytes, and keeps nothing between
    calls: all that lasts is in the slices that the caller lends.
@@ -82,9 +83,9 @@ extern "C" {
 #define WUTHRACOMB_CARRIER    3u  /* carrier number is B or more */
 #define WUTHRACOMB_LEVER      4u  /* lever above 9 */
 #define WUTHRACOMB_STEP       5u  /* record step of 180,000 or more; replay of more steps */
-#define WUTHRACOMB_CONFLICT   6u  /* another lever is held at that place */
+#define WUTHRACOMB_CONFLICT   6u  /* another lever is held at that place, or in the other log */
 #define WUTHRACOMB_LATE       7u  /* record step + 64 is below the steps made */
-#define WUTHRACOMB_FULL       8u  /* 2,048 records are held */
+#define WUTHRACOMB_FULL       8u  /* 2,048 records are held, or two logs have more together */
 #define WUTHRACOMB_WORLD      9u  /* W, H or B, a cell, a size or a start */
 #define WUTHRACOMB_ROOM      10u  /* a lent length, at opening or replay or with no session */
 #define WUTHRACOMB_BACKWARD  11u  /* reading below the last reading */
@@ -313,6 +314,27 @@ uint32_t wuthracomb_log_sound(const uint8_t *log, size_t log_len);
 */
 uint32_t wuthracomb_step_records(const uint8_t *log, size_t log_len, uint32_t step,
                                  uint64_t *out, size_t out_len);
+
+/* Merges two logs of a yard of B carriers: out then begins with a log that has
+   exactly the records of both, a record of both once; zeros follow.  A log's
+   length alone decides how many records it has, so only the held part of a log
+   buffer is given.  one and two may change places: the outcome is the same.
+
+   Refusals, in order:
+     WORLD     B is out of range;
+     ROOM      out_len isn't 16384, or count_len isn't 1;
+     LOG       one or two isn't sound for B carriers;
+     CONFLICT  one and two have different levers at one place;
+     FULL      the log would have more than 2,048 records.
+
+   DONE: count[0] is the number of records, so the log is the first 8*count[0]
+   bytes of out.  What out and count held before plays no part.
+*/
+uint32_t wuthracomb_merge(uint32_t b,
+                          const uint8_t *one, size_t one_len,
+                          const uint8_t *two, size_t two_len,
+                          uint8_t *out, size_t out_len,
+                          uint64_t *count, size_t count_len);
 
 /* Makes one step of a hanging load with a stiffness p: load is its offset x
    and its speed v.  v becomes v minus p*x/1024 rounded down (also below 0),

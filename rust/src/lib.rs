@@ -1,6 +1,6 @@
 //! Wuthracomb from Rust: a yard of box-shaped carriers run in steps of equal length, a log of lever
-//! records, late records by going back, and replay of a log; beside them the hanging load and the
-//! rope ends of document 02.
+//! records, late records by going back, and replay of a log; beside them the merging of two logs, the
+//! hanging load and the rope ends of document 02.
 //!
 //! Each function is the one of `include/wuthracomb.h` with its name, and each slice stands for a
 //! pointer and its length. The header says of each function what it refuses, in which order, and
@@ -58,11 +58,11 @@ pub const CARRIER: u32 = 3;
 pub const LEVER: u32 = 4;
 /// Record step of 180,000 or more; replay of more steps.
 pub const STEP: u32 = 5;
-/// Another lever is held at that place.
+/// Another lever is held at that place, or in the other log.
 pub const CONFLICT: u32 = 6;
 /// Record step + 64 is below the steps made.
 pub const LATE: u32 = 7;
-/// 2,048 records are held.
+/// 2,048 records are held, or two logs have more together.
 pub const FULL: u32 = 8;
 /// W, H or B, a cell, a size or a start.
 pub const WORLD: u32 = 9;
@@ -374,6 +374,38 @@ pub fn log_sound(log: &[u8]) -> u32 {
 pub fn step_records(log: &[u8], step: u32, out: &mut [u64]) -> u32 {
     unsafe {
         raw::wuthracomb_step_records(log.as_ptr(), log.len(), step, out.as_mut_ptr(), out.len())
+    }
+}
+
+/// Merges two logs of a yard of B carriers: `out` then begins with a log that has exactly the records
+/// of both, `count[0]` in number, and zeros follow. [`DONE`], or [`WORLD`] for B, [`ROOM`] where `out`
+/// isn't 16,384 or `count` isn't 1 long, [`LOG`], [`CONFLICT`], [`FULL`].
+///
+/// ```
+/// use wuthracomb::*;
+///
+/// // Step 0 of carrier 0 in one log; the same and step 4 of carrier 1 in the other.
+/// let one = [0, 0, 0, 0, 0, 1, 0, 0];
+/// let two = [0, 0, 0, 0, 0, 1, 0, 0, 4, 0, 0, 0, 1, 9, 0, 0];
+/// let (mut out, mut count) = ([7; LOG_BYTES], [7]);
+/// assert_eq!(merge(2, &one, &two, &mut out, &mut count), DONE);
+/// assert_eq!(count, [2]);
+/// assert_eq!(out[..16], two);
+/// assert_eq!(out[16..], [0; LOG_BYTES - 16]);
+/// ```
+pub fn merge(b: u32, one: &[u8], two: &[u8], out: &mut [u8], count: &mut [u64]) -> u32 {
+    unsafe {
+        raw::wuthracomb_merge(
+            b,
+            one.as_ptr(),
+            one.len(),
+            two.as_ptr(),
+            two.len(),
+            out.as_mut_ptr(),
+            out.len(),
+            count.as_mut_ptr(),
+            count.len(),
+        )
     }
 }
 

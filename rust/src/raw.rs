@@ -134,6 +134,18 @@ extern "C" {
         out_len: usize,
     ) -> u32;
 
+    pub fn wuthracomb_merge(
+        b: u32,
+        one: *const u8,
+        one_len: usize,
+        two: *const u8,
+        two_len: usize,
+        out: *mut u8,
+        out_len: usize,
+        count: *mut u64,
+        count_len: usize,
+    ) -> u32;
+
     pub fn wuthracomb_load_step(stiffness: u32, load: *mut i32, load_len: usize) -> u32;
 
     pub fn wuthracomb_rope_step(

@@ -288,7 +288,10 @@ fn a_rope_end_without_forces_and_nothing() {
         assert_eq!(wuthracomb_rope_step(null(), 0, null(), 0, point.as_mut_ptr(), 2), DONE);
         assert_eq!(wuthracomb_rope_step(&PULL, 1, null(), 0, point.as_mut_ptr(), 2), ROOM);
         assert_eq!(wuthracomb_rope_step(null(), 0, [1.0; 2].as_ptr(), 2, null_mut(), 0), ROOM);
-        assert_eq!(wuthracomb_rope_step(null(), 0, [1.0; 2].as_ptr(), 2, point.as_mut_ptr(), 2), ROOM);
+        assert_eq!(
+            wuthracomb_rope_step(null(), 0, [1.0; 2].as_ptr(), 2, point.as_mut_ptr(), 2),
+            ROOM
+        );
         assert_eq!(wuthracomb_rope_step(&PULL, 1, [1.0; 2].as_ptr(), 2, null_mut(), 0), ROOM);
         assert_eq!(wuthracomb_rope_step(null(), 0, null(), 0, null_mut(), 0), ROOM);
     }
@@ -312,6 +315,32 @@ fn records_and_logs_of_nothing() {
         assert_eq!(wuthracomb_write_record(0, 32, 1, null_mut(), 0), CARRIER);
     }
     assert_eq!(three, [7; 3]);
+}
+
+/// Merges two logs; a slice of no words is null.
+fn merged(b: u32, logs: [&[u8]; 2], out: &mut [u8], count: &mut [u64]) -> u32 {
+    let [one, two] = logs.map(|log| if log.is_empty() { null() } else { log.as_ptr() });
+    let (out, out_len) = given(out, out.is_empty());
+    let (count, count_len) = given(count, count.is_empty());
+    unsafe {
+        wuthracomb_merge(b, one, logs[0].len(), two, logs[1].len(), out, out_len, count, count_len)
+    }
+}
+
+#[test]
+fn logs_of_nothing_merged() {
+    let (mut out, mut count) = ([7; LOG_BYTES], [7]);
+    assert_eq!(merged(0, [&[], &[]], &mut [], &mut []), WORLD);
+    assert_eq!(merged(1, [&[], &[]], &mut [], &mut []), ROOM);
+    assert_eq!(merged(1, [&[], &[]], &mut out, &mut []), ROOM);
+    assert_eq!(merged(1, [&[], &[]], &mut [], &mut count), ROOM);
+    assert_eq!((out, count), ([7; LOG_BYTES], [7]));
+    assert_eq!(merged(1, [&[], &[]], &mut out, &mut count), DONE);
+    assert_eq!((out, count), ([0; LOG_BYTES], [0]));
+    for logs in [[&record()[..], &[]], [&[], &record()[..]]] {
+        assert_eq!(merged(1, logs, &mut out, &mut count), DONE);
+        assert_eq!((&out[..RECORD_BYTES], count), (&record()[..], [1]));
+    }
 }
 
 #[test]

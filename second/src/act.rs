@@ -86,6 +86,14 @@ pub enum Act {
         step: u32,
         out: usize,
     },
+    /// `out` and `count` are the lengths of the slices for the log and for its count.
+    Merge {
+        b: u32,
+        one: Vec<u8>,
+        two: Vec<u8>,
+        out: usize,
+        count: usize,
+    },
     LoadStep {
         stiffness: u32,
         load: Vec<i32>,
@@ -107,6 +115,7 @@ impl Act {
             Act::WriteRecord { .. } => Some("write_record"),
             Act::LogSound(_) => Some("log_sound"),
             Act::StepRecords { .. } => Some("step_records"),
+            Act::Merge { .. } => Some("merge"),
             Act::LoadStep { .. } => Some("load_step"),
             Act::Lend(_) | Act::Put { .. } | Act::Resize { .. } | Act::Keep | Act::Restore => None,
         }
@@ -114,7 +123,7 @@ impl Act {
 }
 
 /// Words printed in short: equal neighbours are counted.
-struct Short<'a, T>(&'a [T]);
+pub struct Short<'a, T>(pub &'a [T]);
 
 impl<T: fmt::Debug + PartialEq> fmt::Debug for Short<'_, T> {
     fn fmt(&self, f: &mut fmt::Formatter) -> fmt::Result {
@@ -168,6 +177,10 @@ impl fmt::Debug for Act {
             Act::LogSound(log) => write!(f, "log_sound {:?}", Short(log)),
             Act::StepRecords { log, step, out } => {
                 write!(f, "step_records {step} of {:?} into {out}", Short(log))
+            }
+            Act::Merge { b, one, two, out, count } => {
+                let [one, two] = [one, two].map(|log| Short(log));
+                write!(f, "merge for {b} {one:?} and {two:?} into {out} and {count}")
             }
             Act::LoadStep { stiffness, load } => write!(f, "load_step {stiffness} of {load:?}"),
         }

@@ -17,6 +17,7 @@ const CAN_GIVE: &[(&str, &[u32])] = &[
     ("write_record", &[CARRIER, LEVER, STEP, ROOM, DONE]),
     ("log_sound", &[0, 1]),
     ("step_records", &[ROOM, DONE]),
+    ("merge", &[WORLD, ROOM, LOG, CONFLICT, FULL, DONE]),
     ("load_step", &[ROOM, LOAD, DONE]),
 ];
 

@@ -60,6 +60,10 @@ impl Station for Library {
         wuthracomb::step_records(log, step, out)
     }
 
+    fn merge(&self, b: u32, one: &[u8], two: &[u8], out: &mut [u8], count: &mut [u64]) -> u32 {
+        wuthracomb::merge(b, one, two, out, count)
+    }
+
     fn load_step(&self, stiffness: u32, load: &mut [i32]) -> u32 {
         wuthracomb::load_step(stiffness, load)
     }

@@ -1,17 +1,17 @@
 //! One station with the slices that are lent to it, each ending at a guard.
 
-use crate::act::{Act, Buffers, Slice};
+use crate::act::{Act, Buffers, Short, Slice};
 use crate::guarded::Guarded;
 use crate::station::{Lent, Station};
 use std::fmt;
 
-/// What a call gave: its number, and the words of the slice of its own that it writes, as 64 bits
+/// What a call gave: its number, and the words of the slices of its own that it writes, as 64 bits
 /// (f64 by bit pattern).
 #[derive(Clone, PartialEq)]
 pub struct Answer {
     pub number: u32,
     pub out: Vec<u64>,
-    /// No word of that slice has changed.
+    /// No word of those slices has changed.
     pub out_as_before: bool,
     /// Bytes lent to be read, or standing before a slice, have changed.
     pub harm: bool,
@@ -20,7 +20,7 @@ pub struct Answer {
 impl fmt::Debug for Answer {
     fn fmt(&self, f: &mut fmt::Formatter) -> fmt::Result {
         let harm = if self.harm { ", changing bytes that are not its own" } else { "" };
-        write!(f, "{} {:?}{harm}", self.number, self.out)
+        write!(f, "{} {:?}{harm}", self.number, Short(&self.out))
     }
 }
 
@@ -195,6 +195,13 @@ impl<'s> Side<'s> {
             Act::StepRecords { log, step, out } => {
                 reading(log, |log| writing(*out, |out| station.step_records(log, *step, out)))
             }
+            Act::Merge { b, one, two, out, count } => reading(one, |one| {
+                reading(two, |two| {
+                    writing_both([*out, *count], |out, count| {
+                        station.merge(*b, one, two, out, count)
+                    })
+                })
+            }),
             Act::LoadStep { stiffness, load } => {
                 changing(load, |load| station.load_step(*stiffness, load))
             }
@@ -267,6 +274,22 @@ fn reading<T: Word>(words: &[T], call: impl FnOnce(&[T]) -> Answer) -> Answer {
 /// A call that writes its answer into a slice of this length.
 fn writing<T: Word>(len: usize, call: impl FnOnce(&mut [T]) -> u32) -> Answer {
     changing(&vec![T::cut(BEFORE); len], call)
+}
+
+/// A call that writes its answer into two slices of these lengths, told one after the other.
+fn writing_both<T: Word, U: Word>(
+    lens: [usize; 2],
+    call: impl FnOnce(&mut [T], &mut [U]) -> u32,
+) -> Answer {
+    let mut second = number(0);
+    let mut answer = writing(lens[0], |one| {
+        second = writing(lens[1], |two| call(one, two));
+        second.number
+    });
+    answer.out.append(&mut second.out);
+    answer.out_as_before &= second.out_as_before;
+    answer.harm |= second.harm;
+    answer
 }
 
 /// A call that changes a slice with these words.

@@ -58,5 +58,6 @@ pub trait Station {
     fn write_record(&self, step: u32, carrier: u32, lever: u32, out: &mut [u8]) -> u32;
     fn log_sound(&self, log: &[u8]) -> u32;
     fn step_records(&self, log: &[u8], step: u32, out: &mut [u64]) -> u32;
+    fn merge(&self, b: u32, one: &[u8], two: &[u8], out: &mut [u8], count: &mut [u64]) -> u32;
     fn load_step(&self, stiffness: u32, load: &mut [i32]) -> u32;
 }

@@ -9,15 +9,14 @@ use borrow.Author.Tests.{eq-eqb, eqb-true, eqb-false, lt-ltb, le-leb}
 use lib.Dec.{eqb}
 use lib.IntN.{ℤ, pos}
 use lib.ListN.{length, take, replicate}
-use lib.Seq.{take-at}
 use Rattle.basis.specs.Numbers.{stepLength}
 use Rattle.basis.specs.Order.{accepted, answer, andThen}
 use Rattle.basis.proofs.Order.{passes, gives}
-use Rattle.record.specs.Log.{logOf}
 use Rattle.record.specs.Buffer.{bufferOf}
 use Rattle.record.specs.declared.bytes.Record.{Record}
 use Rattle.record.proofs.Climbs.{ascends}
-use Rattle.record.proofs.Logs.{length-logOf, recordsOf-log, log-sound}
+use Rattle.record.proofs.Logs.{recordsOf-log, log-sound}
+use Rattle.record.proofs.Buffers.{buffer-front}
 use Rattle.digest.specs.Fnv.{digestOf}
 use Rattle.digest.specs.Words.{stateBytes}
 use Rattle.shown.specs.Answer.{shownPlace}
@@ -54,18 +53,13 @@ module _ (world : World) (opens : Opens world) (s : Session (model world)) (k : 
   state-is : s .made .state ≡ moved world (s .clock .steps) (s .log)
   state-is = ap (λ made. made .state) (k .made) ∙ moved-after world (s .clock .steps) (s .log)
 
-  -- The held part of the log is the records' bytes.
-  front : take (8 * length (s .log)) (bufferOf (s .log)) ≡ logOf (s .log)
-  unfolding bufferOf
-  front = take-at (logOf (s .log)) _ (8 * length (s .log)) (length-logOf (s .log))
-
   replays : (state : List ℤ) → length state ≡ stateWords world
       → answer (replayOrder (world .yard) (s .clock .steps) (world .cells) (world .boxes) state
       (take (8 * length (s .log)) (bufferOf (s .log)))) ≡ accepted (s .made .state)
   unfolding replayOrder worldOrder worldRoom andThen answer
   replays state long =
       rw (
-        front,
+        buffer-front (s .log),
         opens .ranges,
         eq-eqb _ _ (opens .laid),
         eq-eqb _ _ (opens .room),

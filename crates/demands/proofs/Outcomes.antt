@@ -5,6 +5,7 @@ use mathlib.Core.Logic.{_↔_}
 use mathlib.Core.List.{List}
 use native.Mathlib.Omega.{arith}
 use lib.IntN.{ℤ}
+use Rattle.basis.specs.Filled.{Filled, filled}
 use Rattle.basis.specs.Numbers.{TAKEN, HELD}
 use Rattle.basis.specs.Order.{Answer, refused, accepted}
 use Rattle.basis.proofs.Order.{apart}
@@ -17,7 +18,7 @@ use Rattle.session.specs.declared.Digested.{Digested}
 use Rattle.session.specs.declared.Digested.the-variants as digested
 use Rattle.session.specs.declared.Replayed.{Replayed}
 use Rattle.session.specs.declared.Replayed.the-variants as replayed
-use Rattle.session.specs.Lent.{Lent, Made, tells, leaves, Filled, filled}
+use Rattle.session.specs.Lent.{Lent, Made, tells, leaves}
 use Rattle.session.specs.Calls.{taken, alreadyHeld}
 use Rattle.session.specs.Answers.{runningOf, deliveredOf, digestedOf, replayLeaves}
 

@@ -6,6 +6,7 @@ use mathlib.Core.Path.{_≡_}
 use mathlib.Core.Logic.{_↔_, _⊎_, _≢_}
 use mathlib.Core.List.{List}
 use lib.IntN.{ℤ}
+use Rattle.basis.specs.Filled.{Filled, filled}
 use Rattle.record.specs.Log.{recordsOf}
 use Rattle.record.specs.Facts.{Formed, Readable, LogValid}
 use Rattle.record.specs.declared.bytes.Record.{Record}
@@ -28,7 +29,7 @@ use Rattle.session.specs.declared.Digested.{Digested}
 use Rattle.session.specs.declared.Digested.the-variants as digested
 use Rattle.session.specs.declared.Replayed.{Replayed}
 use Rattle.session.specs.declared.Replayed.the-variants as replayed
-use Rattle.session.specs.Lent.{Lent, Made, asBefore, tells, Filled, filled}
+use Rattle.session.specs.Lent.{Lent, Made, asBefore, tells}
 use Rattle.session.specs.Calls.{opened, readOn, takeIn, shownOf}
 use Rattle.session.specs.Facts.{Lengths, Room, Opens, Sound, RowSound, HeldHere, NoneHere}
 

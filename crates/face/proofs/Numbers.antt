@@ -10,6 +10,7 @@ use borrow.Author.Tests.{eqb-true, eqb-false}
 use lib.Dec.{lit≤, leb, eqb}
 use lib.IntN.{ℤ}
 use lib.ListN.{length}
+use Rattle.basis.specs.Filled.{Filled, filled}
 use Rattle.basis.specs.LittleEndian.{Bytes}
 use Rattle.basis.specs.Order.{Answer, refused, accepted, Order, answer, andThen}
 use Rattle.basis.proofs.Tests.{never, says-eq, says-two, says-three}
@@ -34,7 +35,7 @@ use Rattle.session.specs.Calls.{worldOrder, openOrder, readingOrder, deliverOrd
 use Rattle.session.specs.Calls.{digestOrder, shownOrder, opened, readOn, Delivery, takeIn}
 use Rattle.session.specs.Calls.{unchanged, foundIn, rowIn, previous}
 use Rattle.session.specs.Facts.{Sound, HeldHere, NoneHere, RowSound}
-use Rattle.session.specs.Lent.{Lent, Made, Filled, filled, heldIn, worldIn}
+use Rattle.session.specs.Lent.{Lent, Made, heldIn, worldIn}
 use Rattle.session.specs.declared.Session.{Session}
 use Rattle.session.proofs.Deliveries.{placeOrder}
 use Rattle.session.proofs.Facts.{lengths-fit, room-fits, sound-means}
@@ -52,7 +53,7 @@ use Rattle.face.specs.Table.{Table, Fills, Leaves, Gives}
 use Rattle.face.proofs.Rungs.{By, told, like, rung, passed, end, joined, answers-by}
 use Rattle.face.proofs.Rungs.{else-fact, else-le, else-lt, else-eq, else-or, absent, present}
 
-abbrev all-done : {A : Type 0} → A → ℕ
+abbrev pub all-done : {A : Type 0} → A → ℕ
 all-done a = 255
 
 -- A function that fills one slice.

@@ -10,6 +10,7 @@ use borrow.Author.Tests.{eqb-false, ne-eqb, leb-false, lt-leb}
 use lib.Dec.{eqb}
 use lib.Ieee.{Float}
 use lib.ListN.{length, take}
+use Rattle.basis.specs.Filled.{Filled, filled}
 use Rattle.basis.specs.Numbers.{ROPE}
 use Rattle.basis.specs.Order.{Answer, refused, accepted, Order, check, give, answer, andThen}
 use Rattle.basis.specs.Order.{isAccepted}
@@ -19,7 +20,6 @@ use Rattle.rope.specs.Step.{ropeOrder, movedUnder}
 use Rattle.rope.specs.Facts.{Rule18}
 use Rattle.rope.specs.declared.Point.{Point}
 use Rattle.rope.proofs.Rule18.{both-fail, refused-when, settled}
-use Rattle.session.specs.Lent.{Filled, filled}
 use Rattle.station.specs.Left.{fills}
 use Rattle.station.specs.Ropes.{kindsHold, pointOf, forcesOf, ropeFace}
 use Rattle.station.specs.Says.{RopeStepSays}

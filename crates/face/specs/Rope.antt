@@ -5,10 +5,10 @@ use mathlib.Core.Logic.{_↔_, _⊎_, _≢_}
 use mathlib.Core.List.{List, [], _∷_, List·Memᴰ}
 use lib.Ieee.{Float}
 use lib.ListN.{length}
+use Rattle.basis.specs.Filled.{Filled, filled}
 use Rattle.rope.specs.Step.{movedUnder}
 use Rattle.rope.specs.Facts.{Rule18}
 use Rattle.rope.specs.declared.Point.{Point}
-use Rattle.session.specs.Lent.{Filled, filled}
 use Rattle.station.specs.Ropes.{pointOf, forcesOf}
 use Rattle.station.specs.Says.{RopeStepSays}
 use Rattle.face.specs.Table.{Table, _when_or_, done, Gives}

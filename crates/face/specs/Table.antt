@@ -4,7 +4,8 @@ use Prim.Native.Nat.{ℕ, _≤_}
 use mathlib.Core.Path.{_≡_}
 use mathlib.Core.Logic.{_↔_, _⊎_}
 use mathlib.Core.List.{List}
-use Rattle.session.specs.Lent.{Lent, Filled, filled}
+use Rattle.basis.specs.Filled.{Filled, filled}
+use Rattle.session.specs.Lent.{Lent}
 use Rattle.station.specs.Left.{Left, left}
 
 -- `9 when A or 10 when B or done 255` gives 9 where A holds, 10 where B holds and A doesn't, and

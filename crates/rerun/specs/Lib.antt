@@ -1,11 +1,9 @@
 -- Document 01, 'The program'. Read in this order:
---   Input       how much of standard input was read
 --   Rerun       what a log comes to in the practice yard
 --   Ascii       a text as bytes
 --   Text        the lines that are written
 --   Statements  what is claimed of these, each with its proof of that type in
 --               proofs/Statements.antt
-pub mod Input
 pub mod Rerun
 pub mod Ascii
 pub mod Text

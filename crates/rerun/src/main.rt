@@ -1,9 +1,7 @@
 // The program: the log on standard input, re-run in the practice yard (document 01, 'The program').
 //   ended  what a log comes to
 //   text   the lines of it
-//   input  standard input, however it is cut into reads
 mod ended;
-mod input;
 mod text;
 
 ghost use mathlib.Core.Path.{_≡_};
@@ -16,6 +14,7 @@ use ended::rerun;
 use input::Input;
 use input::read_input;
 use libc::STDERR_FILENO;
+use libc::STDIN_FILENO;
 use libc::STDOUT_FILENO;
 use record::Buffer;
 use text::Text;
@@ -35,7 +34,7 @@ fn program(input: &[u8], text: &mut [u8]) -> usize
 fn main() {
     let mut bytes = [0u8; Buffer::SIZE + 1];
     let mut text = [0u8; Text::SIZE];
-    let input = read_input(&mut bytes);
+    let input = read_input(STDIN_FILENO, &mut bytes);
     match input {
         Input::Read(n) => {
             let end = program(&bytes[..n], &mut text);

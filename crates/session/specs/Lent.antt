@@ -52,17 +52,3 @@ tells says m = made (says (m .result)) (m .state) (m .rows) (m .log)
 abbrev pub leaves : {A : Type 0} → Lent → Answer (Made A) → Made (Answer A)
 leaves l (refused number) = asBefore (refused number) l
 leaves l (accepted m) = tells accepted m
-
--- What a call that may change one slice alone answers, and what it leaves there.
-pub record Filled (A B : Type 0) : Type 0 where
-  pub answer : A
-  pub out : List B
-
--- The two, as one.
-abbrev pub filled : {A B : Type 0} → A → List B → Filled A B
-filled answer out = record { answer = answer; out = out }
-
--- A refusal leaves the slice 'as before'; an accepted call fills it, and answers that it was done.
-abbrev pub fill : {A B : Type 0} → A → (ℕ → A) → List B → Answer (List B) → Filled A B
-fill done refusal before (refused number) = filled (refusal number) before
-fill done refusal before (accepted out) = filled done out

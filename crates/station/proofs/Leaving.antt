@@ -4,12 +4,13 @@ use mathlib.Core.Path.{_≡_, refl, sym, ap, _∙_}
 use mathlib.Core.Bool.{Bool, true, false}
 use mathlib.Core.List.{List}
 use lib.IntN.{ℤ}
+use Rattle.basis.specs.Filled.{Filled, filled}
 use Rattle.basis.specs.Numbers.{FAULT}
 use Rattle.basis.specs.Order.{Answer, refused, accepted, Order, check, answer, andThen}
 use Rattle.basis.proofs.Order.{passes, fails}
 use Rattle.session.specs.Answers.{replayLeaves}
 use Rattle.session.specs.Calls.{worldOrder, openOrder}
-use Rattle.session.specs.Lent.{Lent, Made, made, leaves as sessionLeaves, Filled, filled}
+use Rattle.session.specs.Lent.{Lent, Made, made, leaves as sessionLeaves}
 use Rattle.session.specs.declared.Replayed.{Replayed}
 use Rattle.session.specs.declared.Replayed.the-variants as replayed
 use Rattle.session.specs.declared.Session.{Session}

@@ -2,6 +2,7 @@
 pub mod Stores
 pub mod Sessions
 pub mod OneRecord
+pub mod Merging
 pub mod Loading
 pub mod Showing
 pub mod Leaving

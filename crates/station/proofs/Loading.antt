@@ -9,6 +9,7 @@ use lib.Dec.{eqb}
 use lib.IntN.{ℤ}
 use lib.ListN.{length}
 use borrow.Author.Tests.{eq-eqb, ne-eqb, eqb-true, eqb-false}
+use Rattle.basis.specs.Filled.{Filled}
 use Rattle.basis.specs.Numbers.{LOAD}
 use Rattle.basis.specs.Order.{Answer, answer, refused, accepted}
 use Rattle.basis.proofs.Order.{passes, fails, gives, stops, goes-on}
@@ -16,7 +17,6 @@ use Rattle.load.specs.Facts.{OutOfRange}
 use Rattle.load.specs.Step.{moved, stepOrder}
 use Rattle.load.specs.declared.Load.{Load}
 use Rattle.load.proofs.Numbers.{outcome, is-refused, is-moved}
-use Rattle.session.specs.Lent.{Filled}
 use Rattle.station.specs.Face.{loadOf, loadStepFace}
 use Rattle.station.specs.Left.{fills}
 use Rattle.station.specs.Says.{LoadStepSays}

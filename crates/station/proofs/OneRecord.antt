@@ -4,6 +4,7 @@ use mathlib.Core.Path.{_≡_, refl, sym, ap, _∙_}
 use mathlib.Core.List.{List, [], _∷_}
 use lib.ListN.{getD, length}
 use borrow.Author.Tests.{eq-eqb, ne-eqb}
+use Rattle.basis.specs.Filled.{filled}
 use Rattle.basis.specs.Numbers.{ROOM, mostCarriers}
 use Rattle.basis.specs.Order.{Answer, answer, refused, accepted}
 use Rattle.basis.proofs.Lists.{stored}
@@ -15,7 +16,6 @@ use Rattle.record.specs.declared.bytes.Outcome.the-variants as outcome
 use Rattle.record.specs.declared.bytes.Record.{Record}
 use Rattle.record.specs.declared.bytes.Written.{Written}
 use Rattle.station.specs.Face.{readRecordFace, writeRecordFace}
-use Rattle.session.specs.Lent.{filled}
 use Rattle.station.specs.Left.{fills, DONE}
 use Rattle.station.proofs.Stores.{stores}
 

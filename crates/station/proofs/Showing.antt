@@ -6,11 +6,12 @@ use mathlib.Core.List.{List}
 use lib.Dec.{eqb}
 use lib.ListN.{length}
 use borrow.Author.Tests.{eqb-true, eq-eqb, ne-eqb}
+use Rattle.basis.specs.Filled.{filled}
 use Rattle.basis.specs.Numbers.{FAULT}
 use Rattle.basis.specs.Order.{Order, check, give, andThen, answer, refused, accepted}
 use Rattle.basis.proofs.Order.{passes, fails, gives, stops, goes-on}
 use Rattle.basis.proofs.Tests.{and-left, and-right}
-use Rattle.session.specs.Lent.{Lent, filled}
+use Rattle.session.specs.Lent.{Lent}
 use Rattle.session.specs.Sound.{sound}
 use Rattle.station.specs.Face.{shows}
 use Rattle.station.specs.Left.{fills, DONE}

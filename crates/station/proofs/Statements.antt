@@ -9,11 +9,12 @@ use lib.Dec.{eqb}
 use lib.Ieee.{Float}
 use lib.IntN.{ℤ}
 use lib.ListN.{length}
-use borrow.Author.Tests.{eq-eqb, ne-eqb, eqb-true}
+use borrow.Author.Tests.{eq-eqb, ne-eqb, eqb-true, eqb-false}
 use Rattle.basis.specs.Numbers.{ROOM, FAULT}
 use Rattle.basis.specs.Order.{Order, answer, refused, andThen, give}
 use Rattle.basis.proofs.Order.{passes, fails, one-result}
 use Rattle.basis.proofs.Tests.{never, and-both}
+use Rattle.merge.specs.Calls.{carriersHold}
 use Rattle.load.specs.Step.{stepOrder}
 use Rattle.yard.specs.Rule9.{rangesHold}
 use Rattle.yard.specs.declared.world.Yard.{Yard}
@@ -26,11 +27,12 @@ use Rattle.session.specs.declared.Session.{Session}
 use Rattle.session.proofs.Good.{bad-ranges}
 use Rattle.station.specs.Words.{sessionWords, sessionOf, nine}
 use Rattle.station.specs.Face.{openFace, readingFace, deliverFace, shows, digestFace}
-use Rattle.station.specs.Face.{shownFace, stepRecordsFace, loadOf, loadStepFace}
+use Rattle.station.specs.Face.{shownFace, stepRecordsFace, mergeFace, loadOf, loadStepFace}
 use Rattle.station.specs.Ropes.{kindsHold, forceOf, forcesOf, pointOf, ropeFace}
 use Rattle.station.specs.Statements.{NineWords, Determined, Refusals}
 use Rattle.station.specs.Statements.{Lengths, Thin, LoadFace, TwoNumbers}
 use Rattle.station.proofs.Loading.{load-numbers}
+use Rattle.station.proofs.Merging.{wrong-count, wrong-buffer, merges}
 use Rattle.station.proofs.OneRecord.{read-no-room, not-eight}
 use Rattle.station.proofs.Showing.{wrong-out, shows-order}
 use Rattle.station.proofs.Ropes.{wrong-numbers, wrong-point}
@@ -56,6 +58,7 @@ determined =
       stepRecords = λ log step out. one-result;
       readRecord = λ bytes out. one-result;
       writeRecord = λ step carrier lever out. one-result;
+      merge = λ b one two out count. one-result;
       loadStep = λ stiffness words. one-result;
       opens = λ yard reading l words. one-result;
       reading = λ reading l words. one-result;
@@ -72,6 +75,7 @@ refusals =
       filled = λ before a n e. rw e;
       running = λ l words a n e. rw e;
       delivered = λ l words a n e. rw e;
+      merged = λ out count a n e. rw e;
     }
 
 -- Opening tests the ranges first, so the face's own test of them changes nothing.
@@ -142,6 +146,18 @@ part-room : (log : List ℕ) (step : ℕ) (out : List ℕ) → (length out ≡ 2
 unfolding stepRecordsFace
 part-room log step out h = fails _ _ (ne-eqb _ _ h)
 
+merge-room : (b : ℕ) (one two out count : List ℕ) → carriersHold b ≡ true
+    → (length count ≡ 1 → ⊥) ⊎ (length out ≡ 16384 → ⊥)
+    → answer (mergeFace b one two out count) ≡ refused ROOM
+merge-room b one two out count few wrong = go (eqb (length count) 1) refl wrong
+  where
+    go : (t : Bool) → eqb (length count) 1 ≡ t
+        → (length count ≡ 1 → ⊥) ⊎ (length out ≡ 16384 → ⊥)
+        → answer (mergeFace b one two out count) ≡ refused ROOM
+    go false e h = wrong-count b one two out count few (eqb-false _ _ e)
+    go true e (inl h) = absurd (h (eqb-true _ _ e))
+    go true e (inr h) = wrong-buffer b one two out count few (eqb-true _ _ e) h
+
 load-room : (stiffness : ℕ) (words : List ℤ) → (length words ≡ 2 → ⊥)
     → answer (loadStepFace stiffness words) ≡ refused ROOM
 unfolding loadStepFace
@@ -175,6 +191,7 @@ lengths =
       stepRecords = part-room;
       readRecord = λ bytes out r. read-no-room bytes out;
       writeRecord = λ step carrier lever out r. not-eight step carrier lever out;
+      merge = merge-room;
       loadStep = load-room;
       ropeStep = rope-room;
     }
@@ -236,6 +253,7 @@ thin =
       deliver = delivers;
       digest = digests;
       shown = shows-place;
+      merge = merges;
       loadStep = load-steps;
       ropeStep = steps-rope;
     }

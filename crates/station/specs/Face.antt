@@ -14,6 +14,8 @@ use Rattle.basis.specs.Order.{Order, check, give, andThen}
 use Rattle.record.specs.Bytes.{bytesOf, readOrder, writeOrder}
 use Rattle.record.specs.Log.{soundLog}
 use Rattle.record.specs.Part.{partStart, partLength}
+use Rattle.record.specs.declared.bytes.Record.{Record}
+use Rattle.merge.specs.Calls.{carriersHold, mergeOrder}
 use Rattle.load.specs.Step.{stepOrder}
 use Rattle.load.specs.declared.Load.{Load}
 use Rattle.yard.specs.Rule9.{rangesHold}
@@ -51,6 +53,13 @@ writeRecordFace step carrier lever out =
     andThen (writeOrder step carrier lever)
     (λ r. check (eqb (length out) 8) ROOM
     (give (bytesOf r)))
+
+-- `wuthracomb_merge`: the count's length among the lengths; B's range stands before them.
+unfoldable pub mergeFace : ℕ → List ℕ → List ℕ → List ℕ → List ℕ → Order (List Record)
+mergeFace b one two out count =
+    check (carriersHold b) WORLD
+    (check (eqb (length count) 1) ROOM
+    (mergeOrder b (length out) one two))
 
 -- The load in two words, its offset and its speed.
 abbrev pub loadOf : List ℤ → Load

@@ -1,10 +1,14 @@
 -- What a function of the C face answers by a number, and what it leaves in the lent slices.
 use Prim.Native.Nat.{ℕ}
-use mathlib.Core.List.{List}
+use mathlib.Core.List.{List, [], _∷_}
 use lib.IntN.{ℤ}
+use lib.ListN.{length}
+use Rattle.basis.specs.Filled.{Filled, fill}
 use Rattle.basis.specs.Order.{Answer, refused, accepted}
+use Rattle.record.specs.Buffer.{bufferOf}
+use Rattle.record.specs.declared.bytes.Record.{Record}
 use Rattle.session.specs.Calls.{Delivery}
-use Rattle.session.specs.Lent.{Lent, Made, Filled, fill}
+use Rattle.session.specs.Lent.{Lent, Made}
 use Rattle.session.specs.declared.Session.{Session}
 use Rattle.station.specs.Words.{sessionWords}
 
@@ -50,3 +54,19 @@ leavesRunning = leavesBy (λ session. DONE) (λ session. session)
 -- A delivery: 0 or 1, and the session.
 abbrev pub leavesDelivered : Lent → List ℕ → Answer (Made Delivery) → Left
 leavesDelivered = leavesBy (λ delivery. delivery .number) (λ delivery. delivery .session)
+
+-- A merge, which may change the buffer and the word of the count.
+pub record Counted : Type 0 where
+  pub number : ℕ
+  pub out : List ℕ
+  pub count : List ℕ
+
+-- The three, as one.
+abbrev pub counted : ℕ → List ℕ → List ℕ → Counted
+counted number out count = record { number = number; out = out; count = count }
+
+-- A refusal leaves both 'as before'; an accepted merge the buffer that holds the records of both
+-- logs, and how many these are.
+abbrev pub leavesMerged : List ℕ → List ℕ → Answer (List Record) → Counted
+leavesMerged out count (refused number) = counted number out count
+leavesMerged out count (accepted l) = counted DONE (bufferOf l) (length l ∷ [])

@@ -1,9 +1,9 @@
 -- What a call that runs a session tells of its answer, for contracts of parts only.
 use Prim.Native.Nat.{ℕ}
 use mathlib.Core.List.{List}
+use Rattle.basis.specs.Filled.{Filled, filled}
 use Rattle.basis.specs.Order.{Answer, refused, accepted}
 use Rattle.session.specs.Calls.{Delivery}
-use Rattle.session.specs.Lent.{Filled, filled}
 use Rattle.session.specs.declared.Session.{Session}
 use Rattle.station.specs.Left.{DONE}
 use Rattle.station.specs.Words.{sessionWords}

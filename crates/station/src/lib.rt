@@ -1,15 +1,17 @@
-// The C face of `record`, `session`, `load` and `rope`: numbers and slices only, as
+// The C face of `record`, `session`, `merge`, `load` and `rope`: numbers and slices only, as
 // include/wuthracomb.h has them. A slice is a pointer and a length; every function answers a number
 // of documents 01 and 02, or 255 for an accepted call other than a delivery.
 //   words      a session as nine words
 //   records    one record, a log, the records of one step
 //   calls      opening, reading, delivery, replay
 //   show       the digest, and the shown place of a carrier
+//   merges     two logs merged
 //   loads      one step of a hanging load
 //   rope_ends  one step of a rope end
 
 mod calls;
 mod loads;
+mod merges;
 mod records;
 mod rope_ends;
 mod show;
@@ -21,6 +23,7 @@ pub use calls::wuthracomb_open;
 pub use calls::wuthracomb_reading;
 pub use calls::wuthracomb_replay;
 pub use loads::wuthracomb_load_step;
+pub use merges::wuthracomb_merge;
 pub use records::wuthracomb_log_sound;
 pub use records::wuthracomb_read_record;
 pub use records::wuthracomb_step_records;

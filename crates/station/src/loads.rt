@@ -1,6 +1,6 @@
 // The C face of `load`.
 
-ghost use Rattle.session.specs.Lent.{filled};
+ghost use Rattle.basis.specs.Filled.{filled};
 ghost use Rattle.station.specs.Says.{LoadStepSays};
 use super::Face;
 use super::wide;

@@ -4,7 +4,7 @@ ghost use mathlib.Core.Path.{_≡_};
 ghost use Prim.Native.Nat.{_*_, _≤_};
 ghost use lib.Dec.{eqb};
 ghost use lib.ListN.{length, take};
-ghost use Rattle.session.specs.Lent.{filled};
+ghost use Rattle.basis.specs.Filled.{filled};
 ghost use Rattle.station.specs.Ropes.{forceOf, forcesOf, kindsHold};
 ghost use Rattle.station.specs.Says.{RopeStepSays};
 use super::Face;

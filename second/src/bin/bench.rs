@@ -51,6 +51,7 @@ const LINES: &[Line] = &[
     },
     Line { name: "1,000 steps of a rope end", ready: full, work: rope, times: 20, steps: 0 },
     Line { name: "soundness of a full log", ready: full, work: log_sound, times: 500, steps: 0 },
+    Line { name: "two logs of 1,024 merged", ready: full, work: merge, times: 500, steps: 0 },
     Line { name: "digest of a full session", ready: full, work: digest, times: 500, steps: 0 },
     Line { name: "1,000 steps of a hanging load", ready: full, work: load, times: 20, steps: 0 },
 ];
@@ -94,6 +95,8 @@ struct Ground {
     world: World,
     /// 2,048 records spread over a whole session.
     log: Vec<u8>,
+    /// That log parted at random into two of equal length.
+    parts: [Vec<u8>; 2],
     /// A session with that log, after opening.
     session: Buffers,
 }
@@ -112,8 +115,19 @@ impl Ground {
         assert_eq!(Fast.open(YARD, 0, &mut Lent::of(&mut session)), DONE);
         session.log.copy_from_slice(&log);
         session.session[word::HELD] = RECORDS;
-        Ground { world, log, session }
+        let parts = parted(&log, &mut random);
+        Ground { world, log, parts, session }
     }
+}
+
+fn parted(log: &[u8], random: &mut Random) -> [Vec<u8>; 2] {
+    let mut sides: Vec<usize> = (0..log.len() / 8).map(|k| k % 2).collect();
+    random.shuffle(&mut sides);
+    let mut parts = [Vec::new(), Vec::new()];
+    for (record, side) in log.chunks(8).zip(sides) {
+        parts[side].extend(record);
+    }
+    parts
 }
 
 /// The same memory with these words.
@@ -178,6 +192,15 @@ fn rope(station: &dyn Station, buffers: &mut Buffers, _: &Ground) {
 fn log_sound(station: &dyn Station, _: &mut Buffers, ground: &Ground) {
     for _ in 0..500 {
         assert_eq!(station.log_sound(&ground.log), 1);
+    }
+}
+
+/// The merged log goes into the session's, where the two are compared.
+fn merge(station: &dyn Station, buffers: &mut Buffers, ground: &Ground) {
+    let [one, two] = &ground.parts;
+    let count = &mut buffers.session[word::HELD..=word::HELD];
+    for _ in 0..500 {
+        assert_eq!(station.merge(YARD.b, one, two, &mut buffers.log, count), DONE);
     }
 }
 

@@ -29,7 +29,7 @@ fn main() -> io::Result<()> {
     }
     for (path, text) in &made {
         let present = fs::read(path).unwrap_or_default();
-        if present == text.as_bytes() {
+        if present == *text {
             continue;
         }
         if check {
@@ -40,7 +40,8 @@ fn main() -> io::Result<()> {
             println!("expected: wrote {}", name(&tree, path));
         }
     }
-    let lines: usize = made.iter().map(|(_, text)| text.lines().count()).sum();
+    let lines: usize =
+        made.iter().map(|(_, text)| String::from_utf8_lossy(text).lines().count()).sum();
     println!("expected: {} files, {lines} lines, {faults} faults", made.len());
     process::exit(i32::from(faults > 0));
 }
@@ -50,8 +51,8 @@ fn name(tree: &Path, file: &Path) -> String {
 }
 
 /// The first line that differs.
-fn difference(present: &[u8], text: &str) -> String {
-    let present = String::from_utf8_lossy(present);
+fn difference(present: &[u8], text: &[u8]) -> String {
+    let (present, text) = (String::from_utf8_lossy(present), String::from_utf8_lossy(text));
     let mut lines = present.lines();
     for (k, line) in text.lines().enumerate() {
         match lines.next() {

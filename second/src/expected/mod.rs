@@ -6,6 +6,7 @@
 mod answers;
 mod digest;
 mod late;
+mod merged;
 mod pair;
 mod program;
 mod record;
@@ -36,6 +37,9 @@ const LOGS: &[(&str, &str)] = &[("examples", "out")];
 /// Crates that are the program itself: their `stdin` is the log.
 const PROGRAMS: &[&str] = &["crates/rerun"];
 
+/// Crates that are the program of `wuthracomb merge`: the two logs stand in `data`.
+const MERGES: &[&str] = &["crates/one_log"];
+
 type Part = fn(&Paper);
 
 /// What lines are written on, and the station that makes the calls.
@@ -59,21 +63,27 @@ impl<'s> Paper<'s> {
 }
 
 /// Every file of the tree that is made here, with what it is to have.
-pub fn all(tree: &Path, station: &dyn Station) -> std::io::Result<Vec<(PathBuf, String)>> {
+pub fn all(tree: &Path, station: &dyn Station) -> std::io::Result<Vec<(PathBuf, Vec<u8>)>> {
     let mut files = Vec::new();
     for (file, parts) in OUTPUTS {
         let paper = Paper::new(station);
         parts.iter().for_each(|write| write(&paper));
-        files.push((tree.join(file), paper.text.into_inner()));
+        files.push((tree.join(file), paper.text.into_inner().into_bytes()));
     }
     for folder in PROGRAMS {
         let log = std::fs::read(tree.join(folder).join("stdin"))?;
-        files.push((tree.join(folder).join("stdout"), program::written(station, &log)));
+        files
+            .push((tree.join(folder).join("stdout"), program::written(station, &log).into_bytes()));
+    }
+    for folder in MERGES {
+        let read = |name| std::fs::read(tree.join(folder).join("data").join(name));
+        let log = merged::written(station, &read("one.log")?, &read("two.log")?);
+        files.push((tree.join(folder).join("stdout"), log));
     }
     for (folder, extension) in LOGS {
         for log in files_with(&tree.join(folder), "log")? {
             let text = program::written(station, &std::fs::read(&log)?);
-            files.push((log.with_extension(extension), text));
+            files.push((log.with_extension(extension), text.into_bytes()));
         }
     }
     Ok(files)

@@ -11,6 +11,7 @@ mod digest;
 mod levers;
 mod load;
 mod log;
+mod merge;
 mod record;
 mod rope;
 mod session;

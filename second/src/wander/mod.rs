@@ -6,6 +6,7 @@
 
 mod damage;
 mod load;
+mod merge;
 mod rope;
 mod values;
 
@@ -37,6 +38,11 @@ pub fn run_of_loads(other: &dyn Station, seed: u64) -> Run {
 /// Makes a run of this seed that has only steps of rope ends.
 pub fn run_of_ropes(other: &dyn Station, seed: u64) -> Run {
     run_of(|wander| wander.ropes(60), other, seed)
+}
+
+/// Makes a run of this seed that has only mergings of logs.
+pub fn run_of_merges(other: &dyn Station, seed: u64) -> Run {
+    run_of(|wander| wander.merges(20), other, seed)
 }
 
 fn run_of<'s>(
@@ -77,7 +83,8 @@ impl<'s> Wander<'s> {
             _ => self.valid(true)?,
         }
         self.loads(5)?;
-        self.ropes(5)
+        self.ropes(5)?;
+        self.merges(2)
     }
 
     /// A valid world opened, then calls in any order; with damage between them if asked.

@@ -158,7 +158,7 @@ impl Wander<'_> {
 
     /// A log to be read: held, made up, or damaged.
     pub fn log_bytes(&mut self) -> Vec<u8> {
-        let mut log = match self.random.below(3) {
+        let log = match self.random.below(3) {
             0 => {
                 let records = self.random.pick(&[0, 1, 2, 3, 40, 2047, 2048, 2049]);
                 let carriers = self.random.pick(&[self.carriers(), 32]);
@@ -166,6 +166,11 @@ impl Wander<'_> {
             }
             _ => self.pair.held().to_vec(),
         };
+        self.damaged_log(log)
+    }
+
+    /// The log, in four of ten cases with damage.
+    pub fn damaged_log(&mut self, mut log: Vec<u8>) -> Vec<u8> {
         match self.random.below(10) {
             0 => log.truncate(self.random.index(log.len() + 1)),
             1 => log.push(0),

@@ -4,7 +4,7 @@ use mathlib.Core.Path.{sym, subst}
 use native.Mathlib.Omega.{arith}
 use lib.ListN.{length}
 use lib.Seq.{length-take-le}
-use Rattle.rerun.specs.Input.{ReadIn}
+use Rattle.input.specs.Read.{ReadIn}
 use borrow.Author.Needs.{needs}
 use Rattle.rerun.proofs.main.Statement.{statement}
 use Rattle.rerun.proofs.main.Tie as tie
@@ -12,10 +12,10 @@ use Rattle.rerun.proofs.main.Tie as tie
 -- What was read lies within the buffer.
 within : (c : tie.After-known-told)
     → c .before .input .given .0 .0
-    ≤ length (c .before .before .before .before .read-input .last .0)
+    ≤ length (c .before .before .before .before .read-input .last .1 .0)
 within c =
     let read = c .before .before .before .before .read-input in
-    subst (λ r. ReadIn r (read .last .0)) (c .before .input .given .1) (read .ensures)
+    subst (λ r. ReadIn r (read .last .1 .0)) (c .before .input .given .1) (read .ensures)
 
 array-share-prefix-bytes : tie.Need-array-share-prefix-bytes
 array-share-prefix-bytes c = within c

@@ -6,11 +6,11 @@ use mathlib.Core.Path.{_≡_, sym, ap, _∙_}
 use denote.Ref.{now}
 use lib.IntN.{pos}
 use lib.ListN.{getD, length}
+use Rattle.basis.specs.Filled.{filled}
 use Rattle.basis.specs.Order.{answer}
 use Rattle.basis.proofs.Order.{fails}
 use Rattle.basis.proofs.Signed.{got}
 use Rattle.load.specs.Step.{stepOrder, loadAnswer}
-use Rattle.session.specs.Lent.{filled}
 use Rattle.station.specs.Face.{loadOf, loadStepFace}
 use Rattle.station.specs.Left.{fills, DONE}
 use Rattle.station.proofs.Loading.{load-refused, load-moved}

@@ -4,12 +4,12 @@ use lib.ListN.{length-set}
 use mathlib.Core.Path.{sym, ap, _∙_}
 use denote.Ref.{now}
 use Rattle.record.specs.Answers.{readAnswer}
-use Rattle.session.specs.Lent.{filled}
 use Rattle.station.specs.Left.{fills, DONE}
 use Rattle.station.proofs.OneRecord.{read-refused, read-no-room, read-given}
 use Rattle.station.proofs.Stores.{stores}
 use mathlib.Core.List.{[], _∷_}
 use mathlib.Core.Path.{_≡_}
+use Rattle.basis.specs.Filled.{filled}
 use Rattle.basis.specs.Numbers.{mostCarriers}
 use Rattle.basis.specs.Order.{answer, accepted}
 use Rattle.record.specs.Bytes.{readOrder}

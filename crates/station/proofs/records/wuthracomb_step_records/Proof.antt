@@ -3,9 +3,9 @@ use mathlib.Core.List.{[], _∷_}
 use mathlib.Core.Path.{sym, ap, _∙_}
 use denote.Ref.{now}
 use borrow.Author.Tests.{eq-eqb, ne-eqb}
+use Rattle.basis.specs.Filled.{filled}
 use Rattle.basis.proofs.Order.{passes, fails, gives}
 use Rattle.station.specs.Face.{stepRecordsFace}
-use Rattle.session.specs.Lent.{filled}
 use Rattle.station.specs.Left.{fills, DONE}
 use Rattle.station.proofs.Stores.{stores}
 use borrow.Author.Needs.{needs}

@@ -8,10 +8,10 @@ use denote.Ref.{now}
 use lib.Dec.{eqb}
 use lib.ListN.{length, length-set}
 use borrow.Author.Tests.{eqb-true}
+use Rattle.basis.specs.Filled.{filled}
 use Rattle.basis.specs.Order.{answer}
 use Rattle.rope.specs.Step.{ropeOrder, answerOf}
 use Rattle.yard.proofs.Cases.{passed, failed}
-use Rattle.session.specs.Lent.{filled}
 use Rattle.station.specs.Left.{fills, DONE}
 use Rattle.station.specs.Ropes.{kindsHold, forcesOf, pointOf}
 use Rattle.station.proofs.Ropes.{wrong-numbers, wrong-point, wrong-kind, too-many-kinds}

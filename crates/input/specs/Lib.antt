@@ -1,0 +1,3 @@
+-- What the programs read.
+--   Read  how much of a file was read
+pub mod Read
