@@ -27,8 +27,8 @@ module _ (test : ℕ → Bool) where
   pub one-fails : (n k : ℕ) → k < n → test k ≡ false → every n test ≡ false
   one-fails n k l e = ⊎-elim (λ p. never (passes n p k l) e) (λ p. p) (either (every n test))
 
-  -- A loop of tests: those below i have passed. A call that answers no ends it; one that answers yes
-  -- passes i too; where all n have passed, it is at its end.
+  -- A loop of tests: those below i have passed. A call that answers no ends it; one that answers
+  -- yes passes i too; where all n have passed, it is at its end.
   abbrev pub Below : ℕ → Type 0
   Below i = (k : ℕ) → k < i → test k ≡ true
 
