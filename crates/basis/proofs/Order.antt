@@ -48,7 +48,7 @@ module _ {A : Type 0} where
       subst (λ k. First n (check false k rest)) (sym same) here
   first_of (give a) n e = apart (sym e)
 
-  of_first : {order : Order A} {n : ℕ} → First n order → answer order ≡ refused n
+  of_first : {n : ℕ} {order : Order A} → First n order → answer order ≡ refused n
   unfolding answer
   of_first here = refl
   of_first (later f) = of_first f
@@ -61,7 +61,7 @@ module _ {A : Type 0} where
       let same : b ≡ a = cc in
       subst (λ x. Passed a (give x)) (sym same) end
 
-  of_passed : {order : Order A} {a : A} → Passed a order → answer order ≡ accepted a
+  of_passed : {a : A} {order : Order A} → Passed a order → answer order ≡ accepted a
   unfolding answer
   of_passed end = refl
   of_passed (after p) = of_passed p

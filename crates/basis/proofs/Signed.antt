@@ -17,7 +17,7 @@ read z = to_z w32 (of_z w32 z)
 
 -- What fits is read back as it is: what a call gives, by its `.ok`, a field or an element.
 pub got : (z : ℤ) → mag z < 2 ^ 31 → read z ≡ z
-got z h = to_z-of_z (record { sfits = h })
+got z h = to_z-of_z {w = w32} (record { sfits = h })
 
 -- What is small fits.
 pub mag≤abs : (z : ℤ) → mag z ≤ nat_abs z

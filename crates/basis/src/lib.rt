@@ -2,6 +2,8 @@
 // limits that more than one crate keeps, and the lever held at a place. A limit of one crate alone
 // is an associated constant of that crate's own type.
 
+#![tactic(auto)]
+
 // 'Numbers given back', by name.
 #[derive(Drop)]
 pub struct Number {}

@@ -1,4 +1,7 @@
 // The clock: readings in, steps due out. Document 01, 'The clock'.
+
+#![tactic(auto)]
+
 ghost use Rattle.std.specs.Prelude.{◌≡◌, true};
 ghost use Rattle.basis.specs.Numbers.{step_length};
 ghost use Rattle.basis.specs.Order.{answer};

@@ -1,5 +1,8 @@
 // Document 01, 'Digest and shown place': FNV-1a of 32 bits, over bytes and over words. A digest
 // goes in by value and comes back, so that it can be continued over what follows.
+
+#![tactic(auto)]
+
 ghost use Rattle.std.specs.Prelude.{◌≡◌};
 ghost use Rattle.digest.specs.Fnv.{with_byte};
 ghost use Rattle.digest.specs.Words.{twos_complement};

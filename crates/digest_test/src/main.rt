@@ -1,6 +1,9 @@
 // The published FNV-1a vectors of 32 bits, from the test suite of Landon Curt Noll, and the digests
 // of two states: a line for each, the digest in hex and then what it is of. The file `stdout` holds
 // what the model of second/ gives, which is what the authors publish.
+
+#![tactic(auto)]
+
 use digest::Digest;
 use libc::STDOUT_FILENO;
 

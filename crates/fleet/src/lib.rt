@@ -1,5 +1,7 @@
 // All carriers of a yard: their state words, one step of them all under the log, and runs of steps.
 
+#![tactic(auto)]
+
 mod practice;
 mod runs;
 mod state;

@@ -1,5 +1,7 @@
 // An open file, read to its end or until the buffer is full, however it is cut into reads.
 
+#![tactic(auto)]
+
 ghost use Rattle.input.specs.Read.{ReadIn};
 
 #[derive(Drop)]

@@ -3,6 +3,9 @@
 //   late     late records, repeats, orders, the full log
 //   pair     two carriers
 //   replays  replay, and a walk
+
+#![tactic(auto)]
+
 mod late;
 mod pair;
 mod replays;

@@ -1,4 +1,7 @@
 // The hanging load. Document 02, §7.
+
+#![tactic(auto)]
+
 ghost use Rattle.std.specs.Prelude.{◌≡◌};
 ghost use Rattle.load.specs.Step.{within, in_range};
 ghost use Rattle.load.specs.Says.{StepSays};

@@ -1,6 +1,8 @@
 // The program of `wuthracomb merge`: two logs, in the two files that it is given, merged (document
 // 02, §9) and written to standard output.
 
+#![tactic(auto)]
+
 ghost use Rattle.std.specs.Prelude.{◌≡◌, ◌≤◌, length, take};
 ghost use Rattle.basis.specs.Order.{answer};
 ghost use Rattle.input.specs.Read.{ReadIn};

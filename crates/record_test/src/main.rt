@@ -1,5 +1,8 @@
 // Hand-made records and logs, sound and damaged in each way that document 01 names: a line for
 // each, with what the library answers. The file `stdout` holds what the rules say.
+
+#![tactic(auto)]
+
 use libc::STDOUT_FILENO;
 use record::{Buffer, Outcome, Read, Record, Written};
 

@@ -1,5 +1,8 @@
 // Document 01, 'Numbers given back': records, worlds, lengths and sessions that are refused, by the
 // calls of `session` on real buffers. The file `stdout` holds what the model of second/ gives.
+
+#![tactic(auto)]
+
 use clock::Clock;
 use fleet::{Practice, Rows, State};
 use record::Buffer;

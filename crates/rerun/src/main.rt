@@ -1,6 +1,9 @@
 // The program: the log on standard input, re-run in the practice yard (document 01, 'The program').
 //   ended  what a log comes to
 //   text   the lines of it
+
+#![tactic(auto)]
+
 mod ended;
 mod text;
 

@@ -1,5 +1,8 @@
 // Rope ends on the screen, only for show: a point pulled by up to eight forces. Document 02, §8.
 // No crate of a session stands on this one: nothing of it reaches the state or the digest.
+
+#![tactic(auto)]
+
 ghost use Rattle.std.specs.Prelude.{◌≡◌};
 ghost use Rattle.std.specs.Float.Ieee.Scale.{finite};
 ghost use Rattle.rope.specs.Forces.{finite_force, force_on};

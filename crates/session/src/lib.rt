@@ -8,6 +8,8 @@
 //   replays  a log replayed from the start
 //   show     the digest, and the shown place of a carrier
 
+#![tactic(auto)]
+
 mod deliver;
 mod open;
 mod reading;

@@ -1,5 +1,8 @@
 // The shown place of a carrier, between its previous and its present place.
 // Document 01, 'Digest and shown place'.
+
+#![tactic(auto)]
+
 ghost use Rattle.shown.specs.Says.{BlendSays, PlaceSays};
 
 #[derive(Drop)]

@@ -9,6 +9,8 @@
 //   loads      one step of a hanging load
 //   rope_ends  one step of a rope end
 
+#![tactic(auto)]
+
 mod calls;
 mod loads;
 mod merges;

@@ -3,6 +3,9 @@
 //   say, answers  what is written, and the session that goes on
 //   desk          a session with all that is lent
 //   changed       the same with other words
+
+#![tactic(auto)]
+
 pub mod answers;
 mod changed;
 mod desk;

@@ -1,5 +1,8 @@
 // Document 01, 'The clock' and the shown place, by the calls of `session` on real buffers. The file
 // `stdout` holds what the model of second/ gives.
+
+#![tactic(auto)]
+
 use clock::Clock;
 use test_desk::{Desk, say};
 

@@ -1,5 +1,8 @@
 // The yard of document 01: rule 9, where a carrier is free, one carrier's step and its state rule.
 // Callers test ranges and lengths first, in document 01's order: the `requires` rest on that.
+
+#![tactic(auto)]
+
 mod carrier;
 mod levers;
 mod place;
