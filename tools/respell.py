@@ -32,9 +32,37 @@ APART = [
     ("station/proofs/Merging.antt", "no_room", "told_no_room"),
 ]
 
+# Lemmas that would fall together with a definition or a field of the same words.
+OTHERWISE = {
+    "by-lever": "lever_decides",
+    "exactly-when": "numbers_exactly",
+    "from-history": "from_the_history",
+    "joined-saving": "saving_joined",
+    "lever-by": "lever_at_by",
+    "log-of-records": "log_of_all_records",
+    "log-sound": "soundness_of_logs",
+    "merge-leaves": "merging_leaves",
+    "no-fault": "never_fault",
+    "no-wall": "no_wall_is",
+    "none-refused": "none_is_refused",
+    "part-start": "part_starts",
+    "place-order": "order_by_place",
+    "plus-zero": "adds_zero",
+    "read-after-write": "reads_what_is_written",
+    "row-serves": "row_is_right",
+    "same-saving": "saving_same",
+    "sound-log": "log_of_sound",
+    "well-formed": "is_well_formed",
+    "with-log": "given_log",
+    "world-room": "room_of_world",
+    "write-after-read": "writes_what_was_read",
+}
+
 
 def snake(name):
     """The name in snake case: of camel case and of words joined by hyphens."""
+    if name in OTHERWISE:
+        return OTHERWISE[name]
     hyphens = re.sub(r"(?<=[\w'])-(?=[\w'])", "_", name)
     return re.sub(r"(?<=[a-z0-9])([A-Z])", lambda m: "_" + m[1].lower(), hyphens)
 
@@ -114,6 +142,10 @@ def main(words):
         code = "\n".join(line.split("--")[0].split("//")[0] for line in text.splitlines())
         tokens = set(WORD.findall(code))
         taken = imported(text)
+        for name in tokens & table.keys():
+            for other in tokens & table.keys():
+                if name < other and table[name] == table[other]:
+                    falls[name, other].append(os.path.relpath(path, ROOT))
         for name, after in table.items():
             if name in tokens and after in tokens:
                 falls[name, after].append(os.path.relpath(path, ROOT))

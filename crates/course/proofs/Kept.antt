@@ -17,7 +17,7 @@ use Rattle.record.specs.Buffer.{put_in}
 use Rattle.record.specs.declared.bytes.Record.{Record}
 use Rattle.record.proofs.OneRecord.{Within}
 use Rattle.record.proofs.Climbs.{Climbs, done}
-use Rattle.record.proofs.Levers.{lever_by}
+use Rattle.record.proofs.Levers.{lever_at_by}
 use Rattle.record.proofs.Members.{lever_held, within_held}
 use Rattle.record.proofs.Logs.{AllWithin}
 use Rattle.record.proofs.Logs.{done as None-more}
@@ -56,11 +56,11 @@ agree_put r l =
     elsewhere t carrier h at = omega arith
 
 -- Under records that agree below step t with its own, where row t is still saved.
-pub with_log : {world : World} {s : Session world} (t : ℕ) (log : List Record) → Kept s
+pub given_log : {world : World} {s : Session world} (t : ℕ) (log : List Record) → Kept s
     → s.clock.steps ≤ t + row_count → Agree t s.log log
     → (with_log t log s).made ≡ made_after world s.clock.steps log
 unfolding with_log
-with_log {world} {s} t log k timely agree = rw k.made (go (ltb t n) refl)
+given_log {world} {s} t log k timely agree = rw k.made (go (ltb t n) refl)
   where
     n : ℕ
     n = s.clock.steps
@@ -111,9 +111,9 @@ module _ {world : World} (law : Lawful world) where
   unfolding with_log
   kept_take {s} {r} k limits takes =
       let byte : r.carrier < 256 = omega (arith, limits.carrier, law.few) in
-      let free = sym (lever_by r.step r.carrier k.climbs byte) ∙ takes.free in
+      let free = sym (lever_at_by r.step r.carrier k.climbs byte) ∙ takes.free in
       record {
-        made = with_log r.step (put_in r s.log) k takes.timely (agree_put r s.log);
+        made = given_log r.step (put_in r s.log) k takes.timely (agree_put r s.log);
         climbs = climbs_put_in r byte k.climbs (omega arith) free;
         within = within_put_in r k.within limits;
         few = omega (arith, length_put_in r s.log, takes.room);
@@ -161,8 +161,8 @@ module _ {world : World} (law : Lawful world) where
           let saved = row_saved world n r.step s.log (leb-false n r.step e) timely in
           rw (k.made, saved) (good_after r.step k.within)
 
-  pub no_fault : {s : Session world} → Kept s → (call : Call) → answer_to s call ≢ refused FAULT
-  no_fault {s} k (reading t) e = go (by_clock s t) refl
+  pub never_fault : {s : Session world} → Kept s → (call : Call) → answer_to s call ≢ refused FAULT
+  never_fault {s} k (reading t) e = go (by_clock s t) refl
     where
       go : (a : Answer Given) → by_clock s t ≡ a → ⊥
       go (accepted given) q = apart (sym e ∙ is_read s t q)
@@ -170,7 +170,7 @@ module _ {world : World} (law : Lawful world) where
           let same : number ≡ FAULT = cc (is_unread s t q) in
           let unsound = (exactly_fault world.length s.clock t).0 (q ∙ ap refused same) in
           never (is_sound k.clock) unsound
-  no_fault {s} k (delivery bytes) e = go (by_bytes s bytes) refl
+  never_fault {s} k (delivery bytes) e = go (by_bytes s bytes) refl
     where
       by_row : {r : Record} → PlacedAs s r (refused FAULT) → ⊥
       by_row {r} (broken w) = never (row_good r k w.timely) w.row

@@ -9,7 +9,7 @@ use Rattle.record.specs.Log.{place}
 use Rattle.record.specs.Buffer.{lever_at}
 use Rattle.record.specs.declared.bytes.Record.{Record}
 use Rattle.record.proofs.Climbs.{Climbs}
-use Rattle.record.proofs.Levers.{lever_by, lever_by, one_by}
+use Rattle.record.proofs.Levers.{lever_by, lever_at_by, one_by}
 use Rattle.record.proofs.Members.{held_lever, lever_held}
 
 -- Two logs hold the same levers at step t.
@@ -26,9 +26,9 @@ module _ {low high : ℕ} {l m : List Record} (c : Climbs low l) (d : Climbs hig
           let here : place (p / 256) (p % 256) ≡ p = omega arith in
           let byte : p % 256 < 256 = omega arith in
           rw here at
-          (sym (lever_by (p / 256) (p % 256) c byte)
+          (sym (lever_at_by (p / 256) (p % 256) c byte)
           ∙ same (p / 256) (p % 256)
-          ∙ lever_by (p / 256) (p % 256) d byte)
+          ∙ lever_at_by (p / 256) (p % 256) d byte)
 
   -- Logs that hold the same records for a step hold the same levers at it.
   pub same_at : (t : ℕ) → ((r : Record) → r.step ≡ t → Memᴰ r l ↔ Memᴰ r m)

@@ -12,7 +12,7 @@ use Rattle.record.specs.Bytes.{record_of}
 use Rattle.record.specs.declared.bytes.Record.{Record}
 use Rattle.record.proofs.OneRecord.{within_limits}
 use Rattle.record.proofs.Climbs.{ascends}
-use Rattle.record.proofs.Logs.{records_of_log, log_sound}
+use Rattle.record.proofs.Logs.{records_of_log, soundness_of_logs}
 use Rattle.record.proofs.Members.{held_lever, lever_held, within_held}
 use Rattle.record.proofs.Placing.{at_place}
 use Rattle.record.proofs.Placing as placing
@@ -29,7 +29,7 @@ use Rattle.course.proofs.Records.{same_at, same_log}
 use Rattle.course.proofs.Rows.{after_agree, length_rows, row_saved, row_blank}
 use Rattle.course.proofs.Calls.{held_at, answer_at, PlacedAs, told_at, is_held_at, leaves}
 use Rattle.course.proofs.Calls.{is_unread, is_read, is_malformed, is_placed, took_says}
-use Rattle.course.proofs.Kept.{Kept, kept, good_after, no_fault, take_row}
+use Rattle.course.proofs.Kept.{Kept, kept, good_after, never_fault, take_row}
 use Rattle.course.proofs.History.{clock_is, held_again}
 use Rattle.course.proofs.Swap.{places_differ, swap}
 use Rattle.course.proofs.Words.{flat_length, flat_row, flat_saved}
@@ -51,18 +51,18 @@ module _ {world : World} (law : Lawful world) where
         limits = λ r held. within_limits world.carriers r (within_held k.within held);
         clock = is_sound k.clock;
         steps = k.clock.steps;
-        no_fault = no_fault law k;
+        no_fault = never_fault law k;
       }
 
   replay : {s : Session world} → Kept s → Replay s
   replay k =
       record {
-        sound = log_sound k.within (ascends k.climbs) k.few;
+        sound = soundness_of_logs k.within (ascends k.climbs) k.few;
         state = rw (records_of_log k.within) (sym (demand2 k).state);
       }
 
-  from_history : (first : ℕ) (calls : List Call) → FromHistory world first calls
-  from_history first calls =
+  from_the_history : (first : ℕ) (calls : List Call) → FromHistory world first calls
+  from_the_history first calls =
       let clock = clock_is (opening world first) calls in
       record {
         clock = clock;
@@ -135,8 +135,8 @@ module _ {world : World} (law : Lawful world) where
       by_held : PlacedAs s r (accepted held) → held_at s r ≡ some r.lever
       by_held (placing.same h) = h
 
-  exactly_when : {s : Session world} → Kept s → ExactlyWhen s
-  exactly_when {s} k =
+  numbers_exactly : {s : Session world} → Kept s → ExactlyWhen s
+  numbers_exactly {s} k =
       record {
         unread = λ t number. is_unread s t;
         reads = λ t given. is_read s t;
@@ -152,9 +152,9 @@ course =
       demand2 = λ world law s p. demand2 law (kept law p);
       replay = λ world law s p. replay law (kept law p);
       demand3 = λ world law. demand3 law;
-      from_history = λ world law. from_history law;
+      from_history = λ world law. from_the_history law;
       reach = λ world law. reach law;
-      exactly_when = λ world law s p. exactly_when law (kept law p);
+      exactly_when = λ world law s p. numbers_exactly law (kept law p);
       fits = λ words law sized s p.
           rw (kept law p).made (fits_after sized s.clock.steps s.log);
       flat_rows = λ words made fits.

@@ -15,7 +15,7 @@ use Rattle.basis.proofs.Order.{passes, gives}
 use Rattle.record.specs.Buffer.{buffer_of}
 use Rattle.record.specs.declared.bytes.Record.{Record}
 use Rattle.record.proofs.Climbs.{ascends}
-use Rattle.record.proofs.Logs.{records_of_log, log_sound}
+use Rattle.record.proofs.Logs.{records_of_log, soundness_of_logs}
 use Rattle.record.proofs.Buffers.{buffer_front}
 use Rattle.digest.specs.Fnv.{digest_of}
 use Rattle.digest.specs.Words.{state_bytes}
@@ -28,7 +28,7 @@ use Rattle.course.specs.World.{after}
 use Rattle.course.specs.Session.{Session}
 use Rattle.course.proofs.Rows.{row_saved, row_blank}
 use Rattle.course.specs.Calls.{reading, delivery}
-use Rattle.course.proofs.Kept.{Kept, good_after, no_fault}
+use Rattle.course.proofs.Kept.{Kept, good_after, never_fault}
 use Rattle.course.proofs.Words.{flat_length}
 use Rattle.session.specs.Sound.{world_room}
 use Rattle.session.specs.Calls.{world_order}
@@ -67,7 +67,7 @@ module _ (world : World) (opens : Opens world) (s : Session (model world)) (k : 
         opens.cells,
         opens.sizes,
         opens.starts,
-        log_sound k.within (ascends k.climbs) k.few,
+        soundness_of_logs k.within (ascends k.climbs) k.few,
         le-leb _ _ k.clock.steps,
         records_of_log k.within,
         state_is,
@@ -146,10 +146,10 @@ module _ (world : World) (opens : Opens world) (s : Session (model world)) (k : 
         shown = λ i below. rw log (shows i below);
         sound = words_sound world opens s k;
         reads = λ t e.
-            no_fault (lawful world opens) k (reading t)
+            never_fault (lawful world opens) k (reading t)
             (same_refusal (as_read world opens s k) _ (sym (same_reading world opens s k t) ∙ e));
         delivers = λ bytes e.
-            no_fault (lawful world opens) k (delivery bytes)
+            never_fault (lawful world opens) k (delivery bytes)
             (same_refusal (as_delivered world opens s k) _
             (sym (same_delivery world opens s k bytes) ∙ e));
       }

@@ -189,15 +189,15 @@ module _ (s : Session) (l : Lent) (r : Record) (are : Bytes l.log) (sound : Soun
           (by_lever r (found_in s l r) (unchanged s l) (take_in s l r) o) (place_numbers s l r)
 
       go : (o : Option ℕ) → lever_at r.step r.carrier (held_in s l) ≡ o → Placed o
-      go (some lever) e = by_lever (eqb lever r.lever) refl
+      go (some lever) e = lever_decides (eqb lever r.lever) refl
         where
           at : HeldHere s l r lever
           at = (here lever).0 e
 
-          by_lever : (t : Bool) → eqb lever r.lever ≡ t → Placed (some lever)
-          by_lever true q =
+          lever_decides : (t : Bool) → eqb lever r.lever ≡ t → Placed (some lever)
+          lever_decides true q =
               passed q (present refl same (subst (HeldHere s l r) (eqb-true _ _ q) at))
-          by_lever false q =
+          lever_decides false q =
               absent (λ h. eqb-false _ _ q (some_one (sym e ∙ (here r.lever).1 h)))
               (rung refl (λ _ f. f lever at, λ _. q) λ k. never k q)
       go none e =

@@ -8,8 +8,8 @@ use Rattle.fleet.proofs.Carriers.{carrier_put, carrier_other, all_keeps, step_ke
 use Rattle.fleet.proofs.Carriers.{free_as_yard, free_own, free_stays, state_sound}
 use Rattle.fleet.proofs.Starts.{carrier_start, start_sound}
 use Rattle.fleet.proofs.Steps.{each_moved, same_all}
-use Rattle.fleet.proofs.Joined.{joined, joined_saving, saving_state, run_keeps}
-use Rattle.fleet.proofs.Joined.{same_run, same_saving}
+use Rattle.fleet.proofs.Joined.{joined, saving_joined, saving_state, run_keeps}
+use Rattle.fleet.proofs.Joined.{same_run, saving_same}
 use Rattle.fleet.proofs.Rows.{course_fits, rows_made, rows_earlier}
 use Rattle.fleet.proofs.Back.{back_state, back_row}
 
@@ -59,13 +59,13 @@ pub runs : Runs
 runs =
     record {
       joined = joined;
-      joined_saving = joined_saving;
+      joined_saving = saving_joined;
       state = saving_state;
       stays =
           λ world held log t k state l s.
           run_keeps world _ t k state (all_within _ held log l.unrefused) s;
       same = same_run;
-      same_saving = same_saving;
+      same_saving = saving_same;
     }
 
 pub saved_rows : SavedRows

@@ -106,10 +106,10 @@ eq_itself (fin s m e) h = simp (eq-eqb (m * up e * down e) (m * up e * down e) r
     same false = refl
 
 -- 0.0 added to a finite number.
-plus_zero : (f : Format) (s : Bool) (m : ℕ) (e : ℤ)
+adds_zero : (f : Format) (s : Bool) (m : ℕ) (e : ℤ)
     → add f (fin s m e) plus_zero ≡ sum f s (m * up e) false 0 (down e)
 unfolding add
-plus_zero f s m e =
+adds_zero f s m e =
     ap (λ n. sum f s (m * up e * 1) false n (down e * 1)) (zero-mul (down e))
     ∙ ap (λ n. sum f s n false 0 (down e * 1)) (mul-one (m * up e))
     ∙ ap (sum f s (m * up e) false 0) (mul-one (down e))
@@ -130,13 +130,13 @@ module _ (f : Format) where
   plus_zero_is (inf s) h n = never n refl
   plus_zero_is (fin false m e) h n =
       inr
-      (plus_zero f false m e ∙ ap (λ a. round f false a (down e)) (add-zero (m * up e))
+      (adds_zero f false m e ∙ ap (λ a. round f false a (down e)) (add-zero (m * up e))
       ∙ rounded f false m e h)
   plus_zero_is (fin true zero e) h n = inl (no_size f e h)
   plus_zero_is (fin true (suc m) e) h n =
       let some : 0 < suc m * up e = mul-pos (zero-lt-suc m) (up_pos e) in
       inr
-      (plus_zero f true (suc m) e
+      (adds_zero f true (suc m) e
       ∙ rw (le-ltb (suc m * up e) 0 (omega arith), lt-ltb 0 (suc m * up e) some, sub-zero)
       (rounded f true (suc m) e h))
 

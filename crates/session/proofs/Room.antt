@@ -56,10 +56,10 @@ pub record WorldRoom (yard : Yard) (c b s : ℕ) : Type 0 where
   pub boxes : b ≡ 4 * yard.b
   pub state : s ≡ carrier_words * yard.b
 
-pub world_room : (yard : Yard) (cells boxes state : ℕ) → world_room yard cells boxes state ≡ true
+pub room_of_world : (yard : Yard) (cells boxes state : ℕ) → world_room yard cells boxes state ≡ true
     → WorldRoom yard cells boxes state
 unfolding world_room
-world_room yard cells boxes state e =
+room_of_world yard cells boxes state e =
     let c = eqb cells (yard.w * yard.h) in
     let b = eqb boxes (4 * yard.b) in
     let s = eqb state (carrier_words * yard.b) in
@@ -103,7 +103,7 @@ room_says yard l e =
     let g = eqb (length l.log) buffer_size in
     let both = and_left (w && r) g e in
     record {
-      world = world_room yard _ _ _ (and_left w r both);
+      world = room_of_world yard _ _ _ (and_left w r both);
       rows = eqb-true _ _ (and_right w r both);
       log = eqb-true _ _ (and_right (w && r) g e);
     }

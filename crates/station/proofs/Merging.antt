@@ -56,11 +56,11 @@ module _ (b : ℕ) (one two out count : List ℕ) where
       go false e = fails _ _ e ∙ sym (no_carriers b (length out) one two e)
       go true e = passes _ _ e ∙ passes _ _ (eq-eqb _ _ long)
 
-  pub merge_leaves : (after : List ℕ) (result : Merged) → length count ≡ 1
+  pub merging_leaves : (after : List ℕ) (result : Merged) → length count ≡ 1
       → filled result after ≡ merge_leaves out (answer (merge_order b (length out) one two))
       → as_counted count after result
       ≡ leaves_merged out count (answer (merge_face b one two out count))
-  merge_leaves after result long e =
+  merging_leaves after result long e =
       ap (λ (o : Filled Merged ℕ). as_counted count o.out o.answer) e
       ∙ as_left count out (answer (merge_order b (length out) one two))
       ∙ ap (leaves_merged out count) (sym (merges long))

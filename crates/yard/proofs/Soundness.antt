@@ -47,29 +47,29 @@ pub record Good (free : ℤ → ℤ → Bool) (carrier : Carrier) : Type 0 where
 
 module _ (free : ℤ → ℤ → Bool) (carrier : Carrier) where
   -- The state rule, where the lever's test says a fact.
-  by_lever : {L : Type 0} → (between (pos 0) carrier.lever (pos 9) ≡ true) ↔ L
+  lever_decides : {L : Type 0} → (between (pos 0) carrier.lever (pos 9) ≡ true) ↔ L
       → (sound_carrier free carrier ≡ true)
       ↔ ((free carrier.x carrier.y ≡ true)
       × (nat_abs carrier.u ≤ 200)
       × (nat_abs carrier.v ≤ 200)
       × L)
   unfolding sound_carrier
-  by_lever = says_four Iff.rfl (either_way 199 carrier.u) (either_way 199 carrier.v)
+  lever_decides = says_four Iff.rfl (either_way 199 carrier.u) (either_way 199 carrier.v)
 
   pub rule : (sound_carrier free carrier ≡ true)
       ↔ ((free carrier.x carrier.y ≡ true)
       × (nat_abs carrier.u ≤ 200)
       × (nat_abs carrier.v ≤ 200)
       × FromTo 0 9 carrier.lever)
-  rule = by_lever (from_to 0 9 carrier.lever)
+  rule = lever_decides (from_to 0 9 carrier.lever)
 
   pub good_of : sound_carrier free carrier ≡ true → Good free carrier
   good_of e =
-      let (here, u, v, lever) = (by_lever Iff.rfl).0 e in
+      let (here, u, v, lever) = (lever_decides Iff.rfl).0 e in
       record { here = here; u = u; v = v; lever = lever }
 
   pub of_good : Good free carrier → sound_carrier free carrier ≡ true
-  of_good g = (by_lever Iff.rfl).1 (g.here, g.u, g.v, g.lever)
+  of_good g = (lever_decides Iff.rfl).1 (g.here, g.u, g.v, g.lever)
 
 -- Part 1 leaves a lever 0 to 9.
 pub lever_holds : (held : HeldLever) (lever : ℤ) → LeverFits held

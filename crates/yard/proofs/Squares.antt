@@ -59,10 +59,10 @@ module _ (size : Size) (x y : ℕ) where
 
 module _ (yard : Yard) (cells : List ℕ) (size : Size) (x y : ℕ) where
   -- No covered cell is a wall, as a fact of each cell.
-  no_wall : ((column row : ℕ) → covers size x y column row ≡ true
+  no_wall_is : ((column row : ℕ) → covers size x y column row ≡ true
       → wall yard cells column row ≡ false) → no_wall yard cells size x y ≡ true
   unfolding no_wall
-  no_wall h =
+  no_wall_is h =
       all_pass _ yard.h
       (λ row r. all_pass _ yard.w
       (λ column c.
@@ -112,7 +112,7 @@ module _ (yard : Yard) (cells : List ℕ) (size : Size) (x y : ℕ) where
 
     pub none_met : Open yard cells (block_of size x y)
         → free yard cells size (pos x) (pos y) ≡ true
-    none_met h = within ∙ no_wall (λ column row e. h column row (covered size x y column row e))
+    none_met h = within ∙ no_wall_is (λ column row e. h column row (covered size x y column row e))
 
     pub wall_met : SizeFits size → (column row : ℕ) → InBlock (block_of size x y) column row
         → wall yard cells column row ≡ true → free yard cells size (pos x) (pos y) ≡ false
@@ -146,7 +146,7 @@ module _ (yard : Yard) (cells : List ℕ) (size : Size) (x y : ℕ) where
   unfolding covers
   clear_free c =
       within c.right c.bottom
-      ∙ no_wall
+      ∙ no_wall_is
       (λ column row e.
       let across = share x size.w (256 * column) 256 in
       let down = share y size.h (256 * row) 256 in

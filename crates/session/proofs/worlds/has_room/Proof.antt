@@ -8,18 +8,18 @@ use Rattle.session.proofs.worlds.has_room.Statement.{statement}
 use Rattle.session.proofs.worlds.has_room.Tie as tie
 
 returns : tie.Need-returns
-returns c = sym (world_wrong _ _ (failed c.before.world_room.ensures c.if1.true))
+returns c = sym (world_wrong _ _ (failed c.before.room_of_world.ensures c.if1.true))
 
 returns_2 : tie.Need-returns-2
 returns_2 c =
     sym
-    (rows_wrong _ _ (passed c.before.before.world_room.ensures c.before.if1.false)
+    (rows_wrong _ _ (passed c.before.before.room_of_world.ensures c.before.if1.false)
     (λ e. c.if2.true (omega arith)))
 
 returns_3 : tie.Need-returns-3
 returns_3 c =
     sym
-    (log_decides _ _ (passed c.before.before.world_room.ensures c.before.if1.false)
+    (log_decides _ _ (passed c.before.before.room_of_world.ensures c.before.if1.false)
     (omega arith))
 
 pub has_room_spec : {M : Type 1} → statement M

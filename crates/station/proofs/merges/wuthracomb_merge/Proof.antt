@@ -6,7 +6,7 @@ use borrow.Author.Rules.{rules}
 use Rattle.basis.proofs.Tests.{passed, failed}
 use Rattle.merge.specs.Calls.{carriers_hold}
 use Rattle.station.specs.Left.{DONE, counted, leaves_merged}
-use Rattle.station.proofs.Merging.{as_counted, wrong_b, wrong_count, merge_leaves}
+use Rattle.station.proofs.Merging.{as_counted, wrong_b, wrong_count, merging_leaves}
 use Rattle.station.proofs.Stores.{stores}
 use Rattle.station.proofs.merges.wuthracomb_merge.Statement.{statement}
 use Rattle.station.proofs.merges.wuthracomb_merge.Tie as tie
@@ -39,7 +39,7 @@ returns_3 c =
     let s = start e.before in
     rw c.wide3.ensures
     (ap (as_counted s.args.count.now _) (sym n.number.given.1)
-    ∙ merge_leaves _ _ _ _ _ _ _ e.if2.false m.merge-logs.ensures)
+    ∙ merging_leaves _ _ _ _ _ _ _ e.if2.false m.merge-logs.ensures)
 
 returns_4 : tie.Need-returns-4
 returns_4 c =
@@ -50,7 +50,7 @@ returns_4 c =
     let records = n.records.given.0.0 in
     ap (counted DONE _) (stores s.args.count.now (records ∷ []) e.if2.false)
     ∙ ap (as_counted s.args.count.now _) (sym n.records.given.1)
-    ∙ merge_leaves _ _ _ _ _ _ _ e.if2.false m.merge-logs.ensures
+    ∙ merging_leaves _ _ _ _ _ _ _ e.if2.false m.merge-logs.ensures
 
 pub wuthracomb_merge_spec : {M : Type 1} → statement M
 wuthracomb_merge_spec =
