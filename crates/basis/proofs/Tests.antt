@@ -36,11 +36,11 @@ of_cond P true f g = f refl
 of_cond P false f g = g refl
 
 -- What a call answered, where `if !call(..)` was passed and where it was taken.
-pub passed : {r a : Bool} → r ≡ a → not r ≡ false → a ≡ true
-passed {r} e h = sym e ∙ not-false r h
+pub passed : {r a : Bool} → r ≡ a → r ≡ true → a ≡ true
+passed e h = sym e ∙ h
 
-pub failed : {r a : Bool} → r ≡ a → not r ≡ true → a ≡ false
-failed {r} e h = sym e ∙ not-true r h
+pub failed : {r a : Bool} → r ≡ a → r ≡ false → a ≡ false
+failed e h = sym e ∙ h
 
 -- The fact that a test of two numbers says.
 pub says_le : (a b : ℕ) → (leb a b ≡ true) ↔ (a ≤ b)

@@ -60,7 +60,7 @@ impl Limit {
 }
 
 // The lever held at a place, if any.
-#[derive(Drop)]
+#[derive(Clone, Copy)]
 pub enum HeldLever {
     Nothing,
     Lever(u8),

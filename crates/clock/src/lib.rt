@@ -12,7 +12,7 @@ ghost use Rattle.clock.specs.Says.{NewSays, IsSoundSays, ReadSays};
 use basis::{Limit, Number};
 
 // The words of a clock; microseconds, but for `steps`, the number of steps made.
-#[derive(Drop)]
+#[derive(Clone, Copy)]
 pub struct Clock {
     pub first: u64,
     pub last: u64,
@@ -22,7 +22,7 @@ pub struct Clock {
 }
 
 // What a reading comes to: the new clock and the number of steps due, or a refusal by its number.
-#[derive(Drop)]
+#[derive(Clone, Copy)]
 pub enum Reading {
     Accepted { clock: Clock, due: u64 },
     Refused(u8),

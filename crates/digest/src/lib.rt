@@ -8,7 +8,7 @@ ghost use Rattle.digest.specs.Fnv.{with_byte};
 ghost use Rattle.digest.specs.Words.{twos_complement};
 ghost use Rattle.digest.specs.Says.{NewSays, OfStateSays, BytesSays, WordSays, WordsSays};
 
-#[derive(Drop)]
+#[derive(Clone, Copy)]
 pub struct Digest {
     pub value: u32,
 }

@@ -4,7 +4,7 @@
 
 ghost use Rattle.input.specs.Read.{ReadIn};
 
-#[derive(Drop)]
+#[derive(Clone, Copy)]
 pub enum Input {
     Read(usize),
     Failed,

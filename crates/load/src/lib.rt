@@ -9,14 +9,14 @@ ghost use Rattle.load.specs.Says.{StepSays};
 use basis::Number;
 
 // A load's offset and speed.
-#[derive(Drop)]
+#[derive(Clone, Copy)]
 pub struct Load {
     pub x: i32,
     pub v: i32,
 }
 
 // What a step comes to: the load after it, or a refusal by its number.
-#[derive(Drop)]
+#[derive(Clone, Copy)]
 pub enum Stepped {
     Moved(Load),
     Refused(u8),

@@ -12,7 +12,7 @@ ghost use Rattle.rope.specs.Says.{StepSays};
 use basis::Number;
 
 // 'points with place and speed', along one axis: one in the plane is two of them.
-#[derive(Drop)]
+#[derive(Clone, Copy)]
 pub struct Point {
     pub place: f64,
     pub speed: f64,
@@ -20,7 +20,7 @@ pub struct Point {
 
 // 'a steady pull of a given size, a spring with stiffness and rest place, or a drag with its
 // factor', in this order.
-#[derive(Drop)]
+#[derive(Clone, Copy)]
 pub enum Force {
     Pull(f64),
     Spring(f64, f64),
@@ -28,7 +28,7 @@ pub enum Force {
 }
 
 // What one step of a point comes to.
-#[derive(Drop)]
+#[derive(Clone, Copy)]
 pub enum Stepped {
     Moved(Point),
     Refused(u8),

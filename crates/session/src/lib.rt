@@ -25,7 +25,7 @@ pub use show::{digest, shown};
 use yard::Yard;
 
 // What is handed from call to call beside the lent buffers.
-#[derive(Drop)]
+#[derive(Clone, Copy)]
 pub struct Session {
     pub yard: Yard,
     pub clock: Clock,
@@ -33,14 +33,14 @@ pub struct Session {
 }
 
 // What opening and a reading answer: the session, or a refusal by its number.
-#[derive(Drop)]
+#[derive(Clone, Copy)]
 pub enum Running {
     Open(Session),
     Refused(u8),
 }
 
 // What a delivery answers.
-#[derive(Drop)]
+#[derive(Clone, Copy)]
 pub enum Delivered {
     Taken(Session),
     Held(Session),
@@ -48,14 +48,14 @@ pub enum Delivered {
 }
 
 // What replay answers.
-#[derive(Drop)]
+#[derive(Clone, Copy)]
 pub enum Replayed {
     Done,
     Refused(u8),
 }
 
 // What the digest answers.
-#[derive(Drop)]
+#[derive(Clone, Copy)]
 pub enum Digested {
     Value(u32),
     Refused(u8),

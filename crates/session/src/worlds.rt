@@ -14,7 +14,7 @@ use record::Buffer;
 use yard::{Yard, cells_hold, ranges_hold, sizes_hold, starts_hold};
 
 // What opening's order says of a world.
-#[derive(Drop)]
+#[derive(Clone, Copy)]
 pub enum Checked {
     Passed,
     Refused(u8),

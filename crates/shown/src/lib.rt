@@ -5,14 +5,14 @@
 
 ghost use Rattle.shown.specs.Says.{BlendSays, PlaceSays};
 
-#[derive(Drop)]
+#[derive(Clone, Copy)]
 pub struct Place {
     pub x: f64,
     pub y: f64,
 }
 
 // What is answered where a shown place is asked for.
-#[derive(Drop)]
+#[derive(Clone, Copy)]
 pub enum Shown {
     At(Place),
     Refused(u8),

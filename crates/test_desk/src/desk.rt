@@ -16,14 +16,14 @@ pub struct Desk {
 }
 
 // What a reading leaves, and what it answers.
-#[derive(Drop)]
+#[derive(Clone, Copy)]
 struct AfterReading {
     left: Desk,
     answer: Running,
 }
 
 // What a delivery leaves, and what it answers.
-#[derive(Drop)]
+#[derive(Clone, Copy)]
 struct AfterDelivery {
     left: Desk,
     answer: Delivered,

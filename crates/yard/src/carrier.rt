@@ -12,7 +12,7 @@ use super::world::{Size, Yard};
 use basis::HeldLever;
 
 // The five state words of a carrier.
-#[derive(Drop)]
+#[derive(Clone, Copy)]
 pub struct Carrier {
     pub x: i32,
     pub y: i32,

@@ -2,7 +2,7 @@
 ghost use Rattle.std.specs.Prelude.{◌≡◌, ◌≤◌, ◌<◌, nat_abs, ◌+ℤ◌};
 ghost use Rattle.yard.specs.Levers.{along, push_of, cut_speed, brake, new_speed};
 
-#[derive(Drop)]
+#[derive(Clone, Copy)]
 pub enum Axis {
     X,
     Y,
@@ -21,7 +21,7 @@ impl Axis {
 }
 
 // The pushes of one lever position.
-#[derive(Drop)]
+#[derive(Clone, Copy)]
 pub struct Push {
     pub x: i32,
     pub y: i32,

@@ -8,7 +8,7 @@ use super::words::magnitude;
 use super::world::{Size, Yard};
 
 // Cells from column left and row top up to, not with, column right and row bottom.
-#[derive(Drop)]
+#[derive(Clone, Copy)]
 pub struct Block {
     pub left: usize,
     pub right: usize,
@@ -17,7 +17,7 @@ pub struct Block {
 }
 
 // What a search of a block meets first.
-#[derive(Drop)]
+#[derive(Clone, Copy)]
 pub enum Met {
     Nothing,
     Wall { column: usize, row: usize },

@@ -10,7 +10,7 @@ use super::words::magnitude;
 use super::world::{Size, Yard};
 
 // What a move along one axis comes to: the new place on the axis, and the speed kept.
-#[derive(Drop)]
+#[derive(Clone, Copy)]
 pub struct Moved {
     pub at: i32,
     pub speed: i32,

@@ -5,7 +5,7 @@ ghost use Rattle.yard.specs.Boxes.{word, size_of};
 use super::words::magnitude;
 
 // W by H cells, B carriers.
-#[derive(Drop)]
+#[derive(Clone, Copy)]
 pub struct Yard {
     pub w: u32,
     pub h: u32,
@@ -30,7 +30,7 @@ pub fn word_of(boxes: &[i32], i: usize, k: usize) -> i32
 }
 
 // A carrier's box: w by h units.
-#[derive(Drop)]
+#[derive(Clone, Copy)]
 pub struct Size {
     pub w: usize,
     pub h: usize,
