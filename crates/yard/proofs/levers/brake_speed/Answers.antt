@@ -19,8 +19,8 @@ returns-then-old-gt-BRAKE c =
     let less_fits : SFits w32 (c.args.old -ℤ pos brake_units) = small _ (omega (arith, abs_sub c.args.old (pos brake_units))) in
     record {
       braked =
-    let old = to_z-of_z c.ranges.old in
-    rw (old, to_z-of_z less_fits) (simp (rw old at c.if-old-gt-BRAKE.true));
+          let old = to_z-of_z c.ranges.old in
+          rw (old, to_z-of_z less_fits) (simp (rw old at c.if-old-gt-BRAKE.true));
     }
 
 pub overflow_add-result : goal.overflow_add-result
@@ -34,9 +34,9 @@ returns-then-old c =
     let more_fits : SFits w32 (c.args.old +ℤ pos brake_units) = small _ (omega (arith, abs_add c.args.old (pos brake_units))) in
     record {
       braked =
-    let old = to_z-of_z c.ranges.old in
-    rw (old, to_z-of_z more_fits)
-    (simp (rw old at c.if-old-gt-BRAKE.false, rw old at c.if-old.true));
+          let old = to_z-of_z c.ranges.old in
+          rw (old, to_z-of_z more_fits)
+          (simp (rw old at c.if-old-gt-BRAKE.false, rw old at c.if-old.true));
     }
 
 pub returns : goal.returns
@@ -44,6 +44,6 @@ unfolding brake
 returns c =
     record {
       braked =
-    let old = to_z-of_z c.ranges.old in
-    simp (rw old at c.if-old-gt-BRAKE.false, rw old at c.if-old.false);
+          let old = to_z-of_z c.ranges.old in
+          simp (rw old at c.if-old-gt-BRAKE.false, rw old at c.if-old.false);
     }

@@ -28,8 +28,8 @@ returns-then-speed-gt-MOST c =
     let sum_is : read (read c.args.old +ℤ read c.args.push) ≡ c.args.old +ℤ c.args.push = rw (to_z-of_z c.ranges.old, to_z-of_z c.ranges.push) (to_z-of_z sum_fits) in
     record {
       cut =
-    let e = sum_is in
-    simp (rw e at c.if-speed-lt-LEAST.false, rw e at c.if-speed-gt-MOST.true);
+          let e = sum_is in
+          simp (rw e at c.if-speed-lt-LEAST.false, rw e at c.if-speed-gt-MOST.true);
     }
 
 pub returns : goal.returns
@@ -39,6 +39,6 @@ returns c =
     let sum_is : read (read c.args.old +ℤ read c.args.push) ≡ c.args.old +ℤ c.args.push = rw (to_z-of_z c.ranges.old, to_z-of_z c.ranges.push) (to_z-of_z sum_fits) in
     record {
       cut =
-    let e = sum_is in
-    rw e (simp (rw e at c.if-speed-lt-LEAST.false, rw e at c.if-speed-gt-MOST.false));
+          let e = sum_is in
+          rw e (simp (rw e at c.if-speed-lt-LEAST.false, rw e at c.if-speed-gt-MOST.false));
     }

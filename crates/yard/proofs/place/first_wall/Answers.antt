@@ -12,13 +12,13 @@ pub returns-then-cells-i-eq1 : goal.returns-then-cells-i-eq1
 returns-then-cells-i-eq1 c =
     record {
       first =
-    let passed = c.loop-i.invariant in
-    record {
-      low = passed.0;
-      high = passed.1;
-      earlier = passed.2;
-      there = λ _. eq-eqb _ _ c.if-cells-i-eq1.true;
-    };
+          let passed = c.loop-i.invariant in
+          record {
+            low = passed.0;
+            high = passed.1;
+            earlier = passed.2;
+            there = λ _. eq-eqb _ _ c.if-cells-i-eq1.true;
+          };
     }
 
 pub loop-i-preserved : goal.loop-i-preserved
@@ -30,11 +30,11 @@ pub returns : goal.returns
 returns c =
     record {
       first =
-    let passed = c.loop-i.invariant in
-    record {
-      low = c.requires.within.0;
-      high = search rules;
-      earlier = λ i h. passed.2 i (omega arith);
-      there = λ h. absurd (omega arith);
-    };
+          let passed = c.loop-i.invariant in
+          record {
+            low = c.requires.within.0;
+            high = search rules;
+            earlier = λ i h. passed.2 i (omega arith);
+            there = λ h. absurd (omega arith);
+          };
     }

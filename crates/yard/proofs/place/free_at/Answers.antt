@@ -22,8 +22,8 @@ returns-in-Nothing c =
     c.block_of.ensures.covered c.wall_in.ensures.met in
     record {
       place =
-    let met = rw c.in-Nothing.is at finds in
-    sym (none_met _ _ _ _ _ (omega arith) (omega arith) met);
+          let met = rw c.in-Nothing.is at finds in
+          sym (none_met _ _ _ _ _ (omega arith) (omega arith) met);
     }
 
 pub returns-in-Wall : goal.returns-in-Wall
@@ -33,7 +33,7 @@ returns-in-Wall c =
     c.block_of.ensures.covered c.wall_in.ensures.met in
     record {
       place =
-    let met = rw c.in-Wall.is at finds in
-    sym
-    (wall_met _ _ _ _ _ (omega arith) (omega arith) c.requires.sized _ _ met.inside met.there);
+          let met = rw c.in-Wall.is at finds in
+          sym
+          (wall_met _ _ _ _ _ (omega arith) (omega arith) c.requires.sized _ _ met.inside met.there);
     }

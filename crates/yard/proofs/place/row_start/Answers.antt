@@ -16,6 +16,6 @@ pub returns : goal.returns
 returns c =
     record {
       start =
-    let a = c.args in
-    (search rules, omega (arith, mul-le-mul_right a.yard.w c.requires.row.0));
+          let a = c.args in
+          (search rules, omega (arith, mul-le-mul_right a.yard.w c.requires.row.0));
     }

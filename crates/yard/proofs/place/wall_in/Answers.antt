@@ -23,17 +23,17 @@ returns-then-i-start c =
     c.first_wall-i.ensures.first.earlier _ (omega arith) (omega arith) in
     record {
       met =
-    let passed = c.loop-row in
-    let w = c.args.yard.w in
-    let found = c.first_wall-i.result in
-    let start = c.row_start-start in
-    let here : passed.row * w + (found - start.result) ≡ found = omega arith in
-    record {
-      inside = omega arith;
-      there = rw here (c.first_wall-i.ensures.first.there c.if-i-start.true);
-      rows = λ column row h l. passed.invariant.2 column row (omega arith);
-      columns = λ column h l. clear column h.left (omega arith);
-    };
+          let passed = c.loop-row in
+          let w = c.args.yard.w in
+          let found = c.first_wall-i.result in
+          let start = c.row_start-start in
+          let here : passed.row * w + (found - start.result) ≡ found = omega arith in
+          record {
+            inside = omega arith;
+            there = rw here (c.first_wall-i.ensures.first.there c.if-i-start.true);
+            rows = λ column row h l. passed.invariant.2 column row (omega arith);
+            columns = λ column h l. clear column h.left (omega arith);
+          };
     }
 
 pub loop-row-preserved : goal.loop-row-preserved

@@ -16,8 +16,8 @@ unfolding cells_hold
 returns-then-cells-i-gt1 c =
     record {
       cells =
-    let i = c.loop-i.i in
-    sym (one_fails _ _ i (search rules) (lt-leb _ 1 c.if-cells-i-gt1.true));
+          let i = c.loop-i.i in
+          sym (one_fails _ _ i (search rules) (lt-leb _ 1 c.if-cells-i-gt1.true));
     }
 
 pub loop-i-preserved : goal.loop-i-preserved

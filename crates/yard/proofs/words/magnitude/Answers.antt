@@ -37,8 +37,8 @@ returns-then-z-lt0 c =
     let fits : SFits w32 (pos (mag c.args.z)) = record { sfits = c.ranges.z.sfits } in
     record {
       size =
-    rw (less, to_z-of_z fits)
-    (sym (below_abs c.args.z (rw (to_z-of_z c.ranges.z) at c.if-z-lt0.true)));
+          rw (less, to_z-of_z fits)
+          (sym (below_abs c.args.z (rw (to_z-of_z c.ranges.z) at c.if-z-lt0.true)));
     }
 
 pub overflow_cast-result-2 : goal.overflow_cast-result-2
