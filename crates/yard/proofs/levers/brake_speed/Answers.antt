@@ -8,11 +8,6 @@ use Rattle.yard.specs.Levers.{brake_units, brake}
 use Rattle.yard.proofs.Signed.{small, abs_add, abs_sub}
 use Rattle.yard.proofs.levers.brake_speed.Goals as goal
 
-pub overflow_sub-result : goal.overflow_sub-result
-overflow_sub-result c =
-    let less_fits : SFits w32 (c.args.old -ℤ pos brake_units) = small _ (omega (arith, abs_sub c.args.old (pos brake_units))) in
-    rw (to_z-of_z c.ranges.old) less_fits
-
 pub returns-then-old-gt-BRAKE : goal.returns-then-old-gt-BRAKE
 unfolding brake
 returns-then-old-gt-BRAKE c =
@@ -22,11 +17,6 @@ returns-then-old-gt-BRAKE c =
           let old = to_z-of_z c.ranges.old in
           rw (old, to_z-of_z less_fits) (simp (rw old at c.if-old-gt-BRAKE.true));
     }
-
-pub overflow_add-result : goal.overflow_add-result
-overflow_add-result c =
-    let more_fits : SFits w32 (c.args.old +ℤ pos brake_units) = small _ (omega (arith, abs_add c.args.old (pos brake_units))) in
-    rw (to_z-of_z c.ranges.old) more_fits
 
 pub returns-then-old : goal.returns-then-old
 unfolding brake

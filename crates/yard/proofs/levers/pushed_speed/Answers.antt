@@ -9,11 +9,6 @@ use Rattle.yard.specs.Levers.{cut_speed}
 use Rattle.yard.proofs.Signed.{read, small, abs_add}
 use Rattle.yard.proofs.levers.pushed_speed.Goals as goal
 
-pub overflow_add-speed : goal.overflow_add-speed
-overflow_add-speed s =
-    let sum_fits : SFits w32 (s.args.old +ℤ s.args.push) = small _ (omega (arith, abs_add s.args.old s.args.push)) in
-    rw (to_z-of_z s.ranges.old, to_z-of_z s.ranges.push) sum_fits
-
 pub returns-then-speed-lt-LEAST : goal.returns-then-speed-lt-LEAST
 unfolding cut_speed
 returns-then-speed-lt-LEAST c =

@@ -1,5 +1,4 @@
 -- `free_at` meets its contract: past an edge not free, within them as the search of the block says.
-use borrow.Author.Rules.{rules}
 use mathlib.Core.Path.{sym, subst}
 use native.Mathlib.Omega.{arith}
 use Rattle.yard.specs.Search.{Finds, block_of}
@@ -11,9 +10,6 @@ returns-then-x-w c = record { place = sym (past_right _ _ _ _ _ c.if-x-w.true) }
 
 pub returns-then-y-h : goal.returns-then-y-h
 returns-then-y-h c = record { place = sym (past_bottom _ _ _ _ _ c.if-y-h.true) }
-
-pub wall_in-requires : goal.wall_in-requires
-wall_in-requires c = rw c.block_of.ensures.covered (search rules)
 
 pub returns-in-Nothing : goal.returns-in-Nothing
 returns-in-Nothing c =

@@ -13,9 +13,6 @@ use Rattle.yard.proofs.place.wall_in.Goals as goal
 abbrev rows : ℕ → ℕ → ℕ → ℕ → Block
 rows left right top bottom = record { left = left; right = right; top = top; bottom = bottom }
 
-pub loop-row-init : goal.loop-row-init
-loop-row-init c = (search rules, search rules, λ column row h. absurd (omega arith))
-
 pub returns-then-i-start : goal.returns-then-i-start
 unfolding wall
 returns-then-i-start c =
@@ -49,6 +46,3 @@ loop-row-preserved c =
           ⊎_elim (λ e. rw e (clear column h.left (omega arith)))
           (λ l. passed.invariant.2 column row (omega arith)) (eq-or-lt_of_le last),
     )
-
-pub returns : goal.returns
-returns c = record { met = λ column row h. c.loop-row.invariant.2 column row (omega arith) }

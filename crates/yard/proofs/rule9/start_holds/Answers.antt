@@ -3,10 +3,6 @@ use Rattle.yard.specs.Rule9.{start_holds}
 use Rattle.yard.proofs.Signed.{got}
 use Rattle.yard.proofs.rule9.start_holds.Goals as goal
 
-pub is_free-requires : goal.is_free-requires
-is_free-requires c =
-    record { laid = c.requires.laid; sized = rw c.at-size.ensures.size c.requires.sized }
-
 pub returns : goal.returns
 unfolding start_holds
 returns c =

@@ -16,11 +16,6 @@ loop-k-init c =
     let all : c.magnitude-most.result - 0 ≡ c.magnitude-most.result = omega arith in
     (search rules, rw (all, c.magnitude-most.ensures.size))
 
-pub overflow_add-k : goal.overflow_add-k
-overflow_add-k c =
-    let most_small : c.magnitude-most.result ≤ 200 = rw (c.magnitude-most.ensures.size, to_z-of_z c.ranges.speed) c.requires.slow in
-    omega (arith, most_small)
-
 pub clear_on-requires : goal.clear_on-requires
 clear_on-requires c =
     let most_small : c.magnitude-most.result ≤ 200 = rw (c.magnitude-most.ensures.size, to_z-of_z c.ranges.speed) c.requires.slow in
@@ -37,11 +32,6 @@ returns-then-not-clear_on c =
           rw (to_z-of_z f.speed, to_z-of_z f.x, to_z-of_z f.y) at
           (sym (c.loop-k.invariant.1 ∙ walk_stop _ _ _ c.loop-k-test.true blocked));
     }
-
-pub overflow_step-k : goal.overflow_step-k
-overflow_step-k c =
-    let most_small : c.magnitude-most.result ≤ 200 = rw (c.magnitude-most.ensures.size, to_z-of_z c.ranges.speed) c.requires.slow in
-    omega (arith, most_small)
 
 pub loop-k-preserved : goal.loop-k-preserved
 loop-k-preserved c =
