@@ -1,13 +1,10 @@
 -- `state::start` meets its contract.
-use Prim.Native.Nat.{◌*◌}
-use mathlib.Core.List.{append-nil}
-use mathlib.Core.Path.{◌≡◌, refl, ◌∙◌}
+use mathlib.Core.Path.{refl, ◌∙◌}
 use native.Mathlib.Omega.{arith}
-use lib.ListN.{drop_of_length-le}
 use borrow.Author.Rules.{rules}
 use Rattle.fleet.proofs.Words.{start_on}
 use Rattle.yard.proofs.Signed.{got}
-use Rattle.fleet.specs.State.{start_to, carrier_words}
+use Rattle.fleet.specs.State.{start_to}
 use Rattle.fleet.proofs.state.start.Goals as goal
 
 pub loop-i-init : goal.loop-i-init
@@ -28,19 +25,3 @@ loop-i-preserved c = (
       )
       (start_on c.args.boxes.now c.args.state.now c.loop-i.i (omega arith)),
 )
-
-pub shape_of-state : goal.shape_of-state
-shape_of-state c = c.loop-i.invariant.1
-
-pub returns : goal.returns
-returns c =
-    record {
-      started =
-          let all : c.loop-i.i ≡ c.args.yard.b = omega arith in
-          c.loop-i.invariant.2
-          ∙ rw (
-            all,
-            drop_of_length-le c.args.state.now {i = carrier_words * c.args.yard.b} (omega arith),
-          )
-          (append-nil _);
-    }

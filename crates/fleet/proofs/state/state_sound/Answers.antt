@@ -1,15 +1,11 @@
 -- `state::state_sound` meets its contract.
 use mathlib.Core.Path.{◌≡◌, ◌∙◌}
-use borrow.Author.Count.{below_none}
 use borrow.Author.Rules.{rules}
 use Rattle.fleet.specs.State.{carrier, free_for, sound_state, world_of}
 use Rattle.yard.proofs.Fits.{sizes_fit}
 use Rattle.yard.proofs.Every.{stops, goes_on, ends}
 use Rattle.yard.specs.Step.{sound_carrier}
 use Rattle.fleet.proofs.state.state_sound.Goals as goal
-
-pub loop-i-init : goal.loop-i-init
-loop-i-init c = (search rules, below_none _)
 
 pub is_sound-requires : goal.is_sound-requires
 is_sound-requires c =
