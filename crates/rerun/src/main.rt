@@ -15,7 +15,6 @@ ghost use Rattle.rerun.specs.Text.{program_text, text_room};
 use ended::rerun;
 use input::{Input, read_input};
 use record::Buffer;
-use std::io;
 use text::{Text, lines};
 
 // What the program writes for an input, at the front of the text; and how long it is.
@@ -28,7 +27,7 @@ fn program(input: &[u8], text: &mut [u8]) -> usize
 }
 
 // The input has room for one byte more than a log has: one that fills it is refused.
-fn main(rt: HostRuntime) -> io::Result<()> {
+fn main(rt: HostRuntime) -> std::io::Result<()> {
     let mut bytes = [0u8; Buffer::SIZE + 1];
     let mut text = [0u8; Text::SIZE];
     let input = read_input(&mut rt.reader(), &mut bytes);
