@@ -3,6 +3,7 @@ pub mod Turns
 pub mod Merges
 pub mod Fine
 pub mod Cursors
+pub mod Writes
 pub mod Orders
 pub mod Holds
 pub mod Ways

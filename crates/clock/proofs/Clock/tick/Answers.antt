@@ -34,6 +34,6 @@ unfolding due ticked
 returns c =
     record {
       ticked =
-    rw c.used-used.ensures.used
-    (sym (is_taken _ _ _ (c.requires.sound, omega arith, omega arith)));
+          rw c.used-used.ensures.used
+          (sym (is_taken _ _ _ (c.requires.sound, omega arith, omega arith)));
     }

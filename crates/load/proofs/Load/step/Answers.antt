@@ -2,7 +2,6 @@
 -- given, and every word on the way fits.
 use Prim.Native.Nat.{◌≤◌}
 use borrow.Author.Rules.{rules}
-use borrow.Author.Tests.{ltb-true}
 use mathlib.Core.Path.{◌≡◌, sym}
 use mathlib.Core.Bool.{true}
 use mathlib.Core.Logic.{⊎_elim}
@@ -27,11 +26,9 @@ pub returns-then-stiffness-lt1 : goal.returns-then-stiffness-lt1
 returns-then-stiffness-lt1 c =
     record {
       stepped =
-    let p = c.args.stiffness in
-    sym
-    (bad_stiffness _ _
-    (⊎_elim (λ t. too_soft p t.taken) (λ t. too_stiff p (ltb-true 1024 p t.1.taken))
-    c.then-stiffness-lt1.branch));
+          sym
+          (bad_stiffness _ _
+          (⊎_elim (too_soft _) (λ t. too_stiff _ t.1) c.then-stiffness-lt1.either));
     }
 
 pub overflow_cast-speed : goal.overflow_cast-speed
@@ -86,8 +83,8 @@ returns-then-not-within c =
     ) in
     record {
       stepped =
-    let speed = rw speed_is at c.within.ensures.within in
-    sym (bad_speed _ _ good range (failed speed c.if-not-within.true));
+          let speed = rw speed_is at c.within.ensures.within in
+          sym (bad_speed _ _ good range (failed speed c.if-not-within.true));
     }
 
 pub overflow_add-offset : goal.overflow_add-offset
@@ -136,9 +133,9 @@ returns-then-not-within-2 c =
     ) in
     record {
       stepped =
-    let place =
-    rw (speed_is, x_is, to_z-of_z offset) at c.within-2.ensures.within in
-    sym (bad_offset _ _ good range (failed place c.if-not-within-2.true));
+          let place =
+          rw (speed_is, x_is, to_z-of_z offset) at c.within-2.ensures.within in
+          sym (bad_offset _ _ good range (failed place c.if-not-within-2.true));
     }
 
 pub returns : goal.returns
@@ -164,10 +161,10 @@ returns c =
     ) in
     record {
       stepped =
-    let speed = rw speed_is at c.within.ensures.within in
-    let place =
-    rw (speed_is, x_is, to_z-of_z offset) at c.within-2.ensures.within in
-    rw (speed_is, x_is, to_z-of_z offset)
-    (sym
-    (moves _ _ good range (passed speed c.if-not-within.false) (passed place c.if-not-within-2.false)));
+          let speed = rw speed_is at c.within.ensures.within in
+          let place =
+          rw (speed_is, x_is, to_z-of_z offset) at c.within-2.ensures.within in
+          rw (speed_is, x_is, to_z-of_z offset)
+          (sym
+          (moves _ _ good range (passed speed c.if-not-within.false) (passed place c.if-not-within-2.false)));
     }

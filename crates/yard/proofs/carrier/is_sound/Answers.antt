@@ -28,10 +28,10 @@ returns-then-not-is_between c =
     test_is (minus 200) w.u (pos 200) (search rules) c.is_between.ensures.tested in
     record {
       rule =
-    rw (
-      passed free_is c.if-not-is_free.false,
-      failed u_is c.if-not-is_between.true,
-    );
+          rw (
+            passed free_is c.if-not-is_free.false,
+            failed u_is c.if-not-is_between.true,
+          );
     }
 
 pub returns-then-not-is_between-2 : goal.returns-then-not-is_between-2
@@ -46,11 +46,11 @@ returns-then-not-is_between-2 c =
     test_is (minus 200) w.v (pos 200) (search rules) c.is_between-2.ensures.tested in
     record {
       rule =
-    rw (
-      passed free_is c.if-not-is_free.false,
-      passed u_is c.if-not-is_between.false,
-      failed v_is c.if-not-is_between-2.true,
-    );
+          rw (
+            passed free_is c.if-not-is_free.false,
+            passed u_is c.if-not-is_between.false,
+            failed v_is c.if-not-is_between-2.true,
+          );
     }
 
 pub returns : goal.returns
@@ -67,10 +67,10 @@ returns c =
     test_is (pos 0) w.lever (pos 9) (search rules) c.is_between-3.ensures.tested in
     record {
       rule =
-    rw (
-      passed free_is c.if-not-is_free.false,
-      passed u_is c.if-not-is_between.false,
-      passed v_is c.if-not-is_between-2.false,
-      lever_is,
-    );
+          rw (
+            passed free_is c.if-not-is_free.false,
+            passed u_is c.if-not-is_between.false,
+            passed v_is c.if-not-is_between-2.false,
+            lever_is,
+          );
     }
