@@ -8,5 +8,5 @@ pub returns-in-Open : goal.returns-in-Open
 returns-in-Open c =
     record {
       told =
-    rw (c.put_session.ensures.put, c.in-Open.is);
+          rw (c.put_session.ensures.put, c.in-Open.is);
     }

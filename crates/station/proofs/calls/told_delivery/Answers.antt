@@ -8,12 +8,12 @@ pub returns-in-Taken : goal.returns-in-Taken
 returns-in-Taken c =
     record {
       told =
-    rw (c.wide-in-Taken.ensures.same, c.put_session.ensures.put, c.in-Taken.is);
+          rw (c.wide-in-Taken.ensures.same, c.put_session.ensures.put, c.in-Taken.is);
     }
 
 pub returns-in-Held : goal.returns-in-Held
 returns-in-Held c =
     record {
       told =
-    rw (c.wide-in-Held.ensures.same, c.put_session-in-Held.ensures.put, c.in-Held.is);
+          rw (c.wide-in-Held.ensures.same, c.put_session-in-Held.ensures.put, c.in-Held.is);
     }

@@ -13,8 +13,8 @@ returns-in-Refused c =
     c.args.cells.now c.args.boxes.now c.args.state.now c.args.log.now) in
     record {
       replayed =
-    rw c.wide.ensures.same
-    (replay_refused _ given c.replay.ensures.replayed c.in-Refused.is);
+          rw c.wide.ensures.same
+          (replay_refused _ given c.replay.ensures.replayed c.in-Refused.is);
     }
 
 pub returns-in-Done : goal.returns-in-Done
@@ -23,5 +23,5 @@ returns-in-Done c =
     c.args.cells.now c.args.boxes.now c.args.state.now c.args.log.now) in
     record {
       replayed =
-    replay_done _ given c.replay.ensures.replayed c.in-Done.is;
+          replay_done _ given c.replay.ensures.replayed c.in-Done.is;
     }

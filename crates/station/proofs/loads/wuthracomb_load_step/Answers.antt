@@ -14,19 +14,16 @@ use Rattle.station.specs.Face.{load_of, load_step_face}
 use Rattle.station.specs.Left.{fills, DONE}
 use Rattle.station.proofs.Loading.{load_refused, load_moved}
 use Rattle.station.proofs.Stores.{stores}
+use mir.Facts.{to_z-of_z}
+use mir.Syntax.{w32}
 use Rattle.station.proofs.loads.wuthracomb_load_step.Goals as goal
 
 pub returns-then-load-ne2 : goal.returns-then-load-ne2
 unfolding load_step_face
 returns-then-load-ne2 c =
-    let stepped : load_answer c.step.result ≡ answer (step_order c.args.stiffness (load_of c.args.load.now)) = let words = c.args.load.now in
-    rw (
-      got (get_or words 0 (pos 0)) c.t11.given,
-      got (get_or words 1 (pos 0)) c.t13.given,
-    ) at c.step.ensures in
     record {
       stepped =
-    rw c.wide.ensures.same (sym (ap (fills _) (fails _ _ (ne_eqb _ _ c.if-load-ne2.true))));
+          rw c.wide.ensures.same (sym (ap (fills _) (fails _ _ (ne_eqb _ _ c.if-load-ne2.true))));
     }
 
 pub returns-in-Refused : goal.returns-in-Refused
@@ -34,15 +31,15 @@ returns-in-Refused c =
     let two : length c.args.load.now ≡ 2 = c.if-load-ne2.false in
     let stepped : load_answer c.step.result ≡ answer (step_order c.args.stiffness (load_of c.args.load.now)) = let words = c.args.load.now in
     rw (
-      got (get_or words 0 (pos 0)) c.before-1.given,
-      got (get_or words 1 (pos 0)) c.before-2-1.given,
+      to_z-of_z {w = w32} {z = get_or words 0 (pos 0)} (search rules),
+      to_z-of_z {w = w32} {z = get_or words 1 (pos 0)} (search rules),
     ) at c.step.ensures.stepped in
     record {
       stepped =
-    rw c.wide-in-Refused.ensures.same
-    (sym
-    (ap (fills _)
-    (load_refused _ _ two (sym stepped ∙ ap load_answer c.in-Refused.is))));
+          rw c.wide-in-Refused.ensures.same
+          (sym
+          (ap (fills _)
+          (load_refused _ _ two (sym stepped ∙ ap load_answer c.in-Refused.is))));
     }
 
 pub returns-in-Moved : goal.returns-in-Moved
@@ -50,16 +47,16 @@ returns-in-Moved c =
     let two : length c.args.load.now ≡ 2 = c.if-load-ne2.false in
     let stepped : load_answer c.step.result ≡ answer (step_order c.args.stiffness (load_of c.args.load.now)) = let words = c.args.load.now in
     rw (
-      got (get_or words 0 (pos 0)) c.before-1.given,
-      got (get_or words 1 (pos 0)) c.before-2-1.given,
+      to_z-of_z {w = w32} {z = get_or words 0 (pos 0)} (search rules),
+      to_z-of_z {w = w32} {z = get_or words 1 (pos 0)} (search rules),
     ) at c.step.ensures.stepped in
     record {
       stepped =
-    let after = c.in-Moved.after in
-    let words = c.args.load.now in
-    simp (got after.x (search rules), got after.v (search rules))
-    (ap (filled DONE) (stores words (after.x ∷ after.v ∷ []) two)
-    ∙ sym
-    (ap (fills words)
-    (load_moved _ _ two (sym stepped ∙ ap load_answer c.in-Moved.is))));
+          let after = c.in-Moved.after in
+          let words = c.args.load.now in
+          simp (got after.x (search rules), got after.v (search rules))
+          (ap (filled DONE) (stores words (after.x ∷ after.v ∷ []) two)
+          ∙ sym
+          (ap (fills words)
+          (load_moved _ _ two (sym stepped ∙ ap load_answer c.in-Moved.is))));
     }

@@ -19,21 +19,21 @@ returns-then-out-ne3 c =
     let accepts : answer (read_order most_carriers c.args.bytes.now) ≡ accepted c.in-Record.r = sym c.read_record.ensures.read ∙ ap read_answer c.in-Record.is in
     record {
       read =
-    rw c.wide-then-out-ne3.ensures.same
-    (sym
-    (ap (fills _)
-    (read_no_room _ _ accepts c.if-out-ne3.true)));
+          rw c.wide-then-out-ne3.ensures.same
+          (sym
+          (ap (fills _)
+          (read_no_room _ _ accepts c.if-out-ne3.true)));
     }
 
 pub returns-in-Refused : goal.returns-in-Refused
 returns-in-Refused c =
     record {
       read =
-    rw c.wide.ensures.same
-    (sym
-    (ap (fills _)
-    (read_refused _ _
-    (sym c.read_record.ensures.read ∙ ap read_answer c.in-Refused.is))));
+          rw c.wide.ensures.same
+          (sym
+          (ap (fills _)
+          (read_refused _ _
+          (sym c.read_record.ensures.read ∙ ap read_answer c.in-Refused.is))));
     }
 
 pub returns-else-out-ne3 : goal.returns-else-out-ne3
@@ -41,12 +41,12 @@ returns-else-out-ne3 c =
     let accepts : answer (read_order most_carriers c.args.bytes.now) ≡ accepted c.in-Record.r = sym c.read_record.ensures.read ∙ ap read_answer c.in-Record.is in
     record {
       read =
-    let r = c.in-Record.r in
-    let out = c.args.out.now in
-    let long = c.if-out-ne3.false in
-    rw (c.wide-in-Record.ensures.same, c.wide-in-Record-2.ensures.same)
-    (ap (filled DONE) (stores out (r.step ∷ r.carrier ∷ r.lever ∷ []) long)
-    ∙ sym (ap (fills out) (read_given _ _ accepts long)));
+          let r = c.in-Record.r in
+          let out = c.args.out.now in
+          let long = c.if-out-ne3.false in
+          rw (c.wide-in-Record.ensures.same, c.wide-in-Record-2.ensures.same)
+          (ap (filled DONE) (stores out (r.step ∷ r.carrier ∷ r.lever ∷ []) long)
+          ∙ sym (ap (fills out) (read_given _ _ accepts long)));
     }
 
 pub bounds-out-2 : goal.bounds-out-2

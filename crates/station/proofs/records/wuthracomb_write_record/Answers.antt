@@ -10,30 +10,30 @@ pub returns-then-out-ne-SIZE : goal.returns-then-out-ne-SIZE
 returns-then-out-ne-SIZE c =
     record {
       written =
-    rw c.wide-then-out-ne-SIZE.ensures.same
-    (sym
-    (ap (fills _)
-    (write_no_room _ _ _ _ _ c.write_record-record.ensures.written c.in-Done.is
-    c.if-out-ne-SIZE.true)));
+          rw c.wide-then-out-ne-SIZE.ensures.same
+          (sym
+          (ap (fills _)
+          (write_no_room _ _ _ _ _ c.write_record-record.ensures.written c.in-Done.is
+          c.if-out-ne-SIZE.true)));
     }
 
 pub returns-in-Refused : goal.returns-in-Refused
 returns-in-Refused c =
     record {
       written =
-    rw c.wide.ensures.same
-    (sym
-    (ap (fills _)
-    (write_refused _ _ _ _ _ c.write_record-record.ensures.written c.in-Refused.is)));
+          rw c.wide.ensures.same
+          (sym
+          (ap (fills _)
+          (write_refused _ _ _ _ _ c.write_record-record.ensures.written c.in-Refused.is)));
     }
 
 pub returns-else-out-ne-SIZE : goal.returns-else-out-ne-SIZE
 returns-else-out-ne-SIZE c =
     record {
       written =
-    let a = c.args in
-    write_given a.step a.carrier a.lever a.out.now c.write_record-record.result
-    c.write_record-record.ensures.written c.in-Done.is c.if-out-ne-SIZE.false;
+          let a = c.args in
+          write_given a.step a.carrier a.lever a.out.now c.write_record-record.result
+          c.write_record-record.ensures.written c.in-Done.is c.if-out-ne-SIZE.false;
     }
 
 pub bounds-out-1 : goal.bounds-out-1

@@ -25,5 +25,5 @@ pub returns : goal.returns
 returns c =
     record {
       forces =
-    all_put _ _ _ _ c.loop-i-test.false c.loop-i.invariant.0 c.loop-i.invariant.2;
+          all_put _ _ _ _ c.loop-i-test.false c.loop-i.invariant.0 c.loop-i.invariant.2;
     }

@@ -14,8 +14,8 @@ pub returns-then-kinds-i-gt-DRAG : goal.returns-then-kinds-i-gt-DRAG
 returns-then-kinds-i-gt-DRAG c =
     record {
       hold =
-    let kinds = c.args.kinds.now in
-    sym (c.loop-i.invariant.1 ∙ kind_fails kinds c.loop-i.i (search rules) c.if-kinds-i-gt-DRAG.true);
+          let kinds = c.args.kinds.now in
+          sym (c.loop-i.invariant.1 ∙ kind_fails kinds c.loop-i.i (search rules) c.if-kinds-i-gt-DRAG.true);
     }
 
 pub loop-i-preserved : goal.loop-i-preserved
@@ -28,5 +28,5 @@ unfolding kinds_hold
 returns c =
     record {
       hold =
-    sym (c.loop-i.invariant.1 ∙ ap kinds_hold (drop_of_length-le _ c.loop-i-test.false));
+          sym (c.loop-i.invariant.1 ∙ ap kinds_hold (drop_of_length-le _ c.loop-i-test.false));
     }

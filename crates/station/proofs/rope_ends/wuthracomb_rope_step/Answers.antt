@@ -22,10 +22,10 @@ pub returns-then-not-two_each : goal.returns-then-not-two_each
 returns-then-not-two_each c =
     record {
       stepped =
-    rw c.wide.ensures.same
-    (sym
-    (ap (fills _)
-    (wrong_numbers _ _ _ (failed c.two_each.ensures.two c.if-not-two_each.true))));
+          rw c.wide.ensures.same
+          (sym
+          (ap (fills _)
+          (wrong_numbers _ _ _ (failed c.two_each.ensures.two c.if-not-two_each.true))));
     }
 
 pub returns-then-point-ne2 : goal.returns-then-point-ne2
@@ -33,8 +33,8 @@ returns-then-point-ne2 c =
     let two : eqb (length c.args.numbers.now) (2 * length c.args.kinds.now) ≡ true = passed c.two_each.ensures.two c.if-not-two_each.false in
     record {
       stepped =
-    rw c.wide-then-point-ne2.ensures.same
-    (sym (ap (fills _) (wrong_point _ _ _ two c.if-point-ne2.true)));
+          rw c.wide-then-point-ne2.ensures.same
+          (sym (ap (fills _) (wrong_point _ _ _ two c.if-point-ne2.true)));
     }
 
 pub returns-then-kinds-gt-MOST : goal.returns-then-kinds-gt-MOST
@@ -42,9 +42,9 @@ returns-then-kinds-gt-MOST c =
     let two : eqb (length c.args.numbers.now) (2 * length c.args.kinds.now) ≡ true = passed c.two_each.ensures.two c.if-not-two_each.false in
     record {
       stepped =
-    rw c.wide-then-kinds-gt-MOST.ensures.same
-    (sym
-    (ap (fills _) (too_many_kinds _ _ _ two c.if-point-ne2.false c.if-kinds-gt-MOST.true)));
+          rw c.wide-then-kinds-gt-MOST.ensures.same
+          (sym
+          (ap (fills _) (too_many_kinds _ _ _ two c.if-point-ne2.false c.if-kinds-gt-MOST.true)));
     }
 
 pub returns-then-not-kinds_hold : goal.returns-then-not-kinds_hold
@@ -52,11 +52,11 @@ returns-then-not-kinds_hold c =
     let two : eqb (length c.args.numbers.now) (2 * length c.args.kinds.now) ≡ true = passed c.two_each.ensures.two c.if-not-two_each.false in
     record {
       stepped =
-    rw c.wide-then-not-kinds_hold.ensures.same
-    (sym
-    (ap (fills _)
-    (wrong_kind _ _ _ two c.if-point-ne2.false
-    (failed c.kinds_hold.ensures.hold c.if-not-kinds_hold.true))));
+          rw c.wide-then-not-kinds_hold.ensures.same
+          (sym
+          (ap (fills _)
+          (wrong_kind _ _ _ two c.if-point-ne2.false
+          (failed c.kinds_hold.ensures.hold c.if-not-kinds_hold.true))));
     }
 
 pub forces_of-requires : goal.forces_of-requires
@@ -77,11 +77,11 @@ returns-in-Refused c =
     let told : answer_of c.step.result ≡ answer (rope_order (point_of c.args.point.now) (forces_of c.args.kinds.now c.args.numbers.now) (length c.args.kinds.now)) = c.step.ensures.stepped ∙ array_step _ _ _ _ c.forces_of.ensures.forces in
     record {
       stepped =
-    rw c.wide-in-Refused.ensures.same
-    (sym
-    (ap (fills _)
-    (step_refused _ _ _ two long known
-    (sym told ∙ ap answer_of c.in-Refused.is))));
+          rw c.wide-in-Refused.ensures.same
+          (sym
+          (ap (fills _)
+          (step_refused _ _ _ two long known
+          (sym told ∙ ap answer_of c.in-Refused.is))));
     }
 
 pub returns-in-Moved : goal.returns-in-Moved
@@ -92,11 +92,11 @@ returns-in-Moved c =
     let told : answer_of c.step.result ≡ answer (rope_order (point_of c.args.point.now) (forces_of c.args.kinds.now c.args.numbers.now) (length c.args.kinds.now)) = c.step.ensures.stepped ∙ array_step _ _ _ _ c.forces_of.ensures.forces in
     record {
       stepped =
-    let point = c.args.point.now in
-    let next = c.in-Moved.next in
-    ap (filled DONE) (stores point (next.place ∷ next.speed ∷ []) long)
-    ∙ sym
-    (ap (fills point)
-    (step_moved _ _ _ two long known
-    (sym told ∙ ap answer_of c.in-Moved.is)));
+          let point = c.args.point.now in
+          let next = c.in-Moved.next in
+          ap (filled DONE) (stores point (next.place ∷ next.speed ∷ []) long)
+          ∙ sym
+          (ap (fills point)
+          (step_moved _ _ _ two long known
+          (sym told ∙ ap answer_of c.in-Moved.is)));
     }

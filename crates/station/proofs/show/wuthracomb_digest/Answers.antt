@@ -21,9 +21,9 @@ unfolding digest_face digest_order
 returns-then-not-may_show c =
     record {
       digested =
-    rw c.wide.ensures.same
-    (shows_unasked _ _ _ _ _ _
-    (failed c.may_show.ensures.may c.if-not-may_show.true));
+          rw c.wide.ensures.same
+          (shows_unasked _ _ _ _ _ _
+          (failed c.may_show.ensures.may c.if-not-may_show.true));
     }
 
 pub session_of-requires : goal.session_of-requires
@@ -37,10 +37,10 @@ returns-in-Refused c =
     let asked : (eqb (length c.args.out.now) 1 && words_fit c.args.session.now) ≡ true = passed c.may_show.ensures.may c.if-not-may_show.false in
     record {
       digested =
-    rw c.wide-in-Refused.ensures.same
-    (shows_refused _ _ _ _ _ asked
-    (sym (rw c.session_of.ensures.session at c.digest.ensures.digested)
-    ∙ ap digested_of c.in-Refused.is));
+          rw c.wide-in-Refused.ensures.same
+          (shows_refused _ _ _ _ _ asked
+          (sym (rw c.session_of.ensures.session at c.digest.ensures.digested)
+          ∙ ap digested_of c.in-Refused.is));
     }
 
 pub returns-in-Value : goal.returns-in-Value
@@ -50,10 +50,10 @@ returns-in-Value c =
     let long : length c.args.out.now ≡ 1 = asked_long _ c.args.out.now c.args.session.now asked in
     record {
       digested =
-    shows_given _ _ _ _ _ asked
-    (sym (rw c.session_of.ensures.session at c.digest.ensures.digested)
-    ∙ ap digested_of c.in-Value.is)
-    (stores c.args.out.now (c.in-Value.value ∷ []) long);
+          shows_given _ _ _ _ _ asked
+          (sym (rw c.session_of.ensures.session at c.digest.ensures.digested)
+          ∙ ap digested_of c.in-Value.is)
+          (stores c.args.out.now (c.in-Value.value ∷ []) long);
     }
 
 pub bounds-out-0 : goal.bounds-out-0

@@ -22,9 +22,9 @@ unfolding shown_face shown_order
 returns-then-not-may_show c =
     record {
       shown =
-    rw c.wide.ensures.same
-    (shows_unasked _ _ _ _ _ _
-    (failed c.may_show.ensures.may c.if-not-may_show.true));
+          rw c.wide.ensures.same
+          (shows_unasked _ _ _ _ _ _
+          (failed c.may_show.ensures.may c.if-not-may_show.true));
     }
 
 pub session_of-requires : goal.session_of-requires
@@ -38,10 +38,10 @@ returns-in-Refused c =
     let asked : (eqb (length c.args.out.now) 2 && words_fit c.args.session.now) ≡ true = passed c.may_show.ensures.may c.if-not-may_show.false in
     record {
       shown =
-    rw c.wide-in-Refused.ensures.same
-    (shows_refused _ _ _ _ _ asked
-    (sym (rw c.session_of.ensures.session at c.shown.ensures.shown)
-    ∙ ap shown_answer c.in-Refused.is));
+          rw c.wide-in-Refused.ensures.same
+          (shows_refused _ _ _ _ _ asked
+          (sym (rw c.session_of.ensures.session at c.shown.ensures.shown)
+          ∙ ap shown_answer c.in-Refused.is));
     }
 
 pub returns-in-At : goal.returns-in-At
@@ -51,11 +51,11 @@ returns-in-At c =
     let long : length c.args.out.now ≡ 2 = asked_long _ c.args.out.now c.args.session.now asked in
     record {
       shown =
-    let place = c.in-At.place in
-    shows_given _ _ _ _ _ asked
-    (sym (rw c.session_of.ensures.session at c.shown.ensures.shown)
-    ∙ ap shown_answer c.in-At.is)
-    (stores c.args.out.now (place.x ∷ place.y ∷ []) long);
+          let place = c.in-At.place in
+          shows_given _ _ _ _ _ asked
+          (sym (rw c.session_of.ensures.session at c.shown.ensures.shown)
+          ∙ ap shown_answer c.in-At.is)
+          (stores c.args.out.now (place.x ∷ place.y ∷ []) long);
     }
 
 pub bounds-out-0 : goal.bounds-out-0

@@ -10,7 +10,7 @@ unfolding session_words
 returns c =
     record {
       put =
-    stores c.args.words.now (session_words c.args.session) c.requires.room;
+          stores c.args.words.now (session_words c.args.session) c.requires.room;
     }
 
 pub bounds-words-4 : goal.bounds-words-4

@@ -15,7 +15,7 @@ returns-then-words-ge-LIMIT c =
     let word : ℕ → ℕ = λ k. get_or c.args.words.now k 0 in
     record {
       fit =
-    rw (eq-eqb _ _ c.if-words-ne-COUNT.false, le-ltb (word 0) _ c.if-words-ge-LIMIT.true);
+          rw (eq-eqb _ _ c.if-words-ne-COUNT.false, le-ltb (word 0) _ c.if-words-ge-LIMIT.true);
     }
 
 pub returns-then-words-ge-LIMIT-2 : goal.returns-then-words-ge-LIMIT-2
@@ -24,11 +24,11 @@ returns-then-words-ge-LIMIT-2 c =
     let word : ℕ → ℕ = λ k. get_or c.args.words.now k 0 in
     record {
       fit =
-    rw (
-      eq-eqb _ _ c.if-words-ne-COUNT.false,
-      lt-ltb (word 0) _ c.if-words-ge-LIMIT.false,
-      le-ltb (word 1) _ c.if-words-ge-LIMIT-2.true,
-    );
+          rw (
+            eq-eqb _ _ c.if-words-ne-COUNT.false,
+            lt-ltb (word 0) _ c.if-words-ge-LIMIT.false,
+            le-ltb (word 1) _ c.if-words-ge-LIMIT-2.true,
+          );
     }
 
 pub returns : goal.returns
@@ -37,9 +37,9 @@ returns c =
     let word : ℕ → ℕ = λ k. get_or c.args.words.now k 0 in
     record {
       fit =
-    rw (
-      eq-eqb _ _ c.if-words-ne-COUNT.false,
-      lt-ltb (word 0) _ c.if-words-ge-LIMIT.false,
-      lt-ltb (word 1) _ c.if-words-ge-LIMIT-2.false,
-    );
+          rw (
+            eq-eqb _ _ c.if-words-ne-COUNT.false,
+            lt-ltb (word 0) _ c.if-words-ge-LIMIT.false,
+            lt-ltb (word 1) _ c.if-words-ge-LIMIT-2.false,
+          );
     }
