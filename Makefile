@@ -1,8 +1,8 @@
 # Installs the library for C: the archive, the header and a pkg-config file.
 #   make install PREFIX=/usr/local [DESTDIR=..]
 #   make uninstall PREFIX=/usr/local [DESTDIR=..]
-# PREFIX is an absolute path. `rt staticlib station` proves and writes the archive where it is missing
-# or older than the code.
+# PREFIX is an absolute path. `make library` proves and writes the archive where it is missing or
+# older than the code: `rt lib` makes it of the crate station_c, and it gets its name here.
 
 PREFIX = /usr/local
 DESTDIR =
@@ -15,7 +15,8 @@ all: library
 
 library:
 	@if [ ! -f $(archive) ] || [ -n "$$(find crates -name '*.rt' -newer $(archive))" ]; then \
-	    rt staticlib station; \
+	    (cd crates/station_c && rt lib) && mkdir -p $(dir $(archive)) && \
+	        cp crates/station_c/out/libstation_c.a $(archive); \
 	fi
 
 absolute:

@@ -1,6 +1,6 @@
 //! Links the library: `libwuthracomb.a`, as `make install` names it, or `libstation.a`, as
-//! `rt staticlib station` does. It is looked for in the folder that `WUTHRACOMB_LIB_DIR` names, or
-//! else where `rt staticlib station` writes it in this tree.
+//! `make library` does. It is looked for in the folder that `WUTHRACOMB_LIB_DIR` names, or else
+//! where `make library` writes it in this tree.
 
 use std::env;
 use std::path::PathBuf;
@@ -29,8 +29,8 @@ fn main() {
         }
     }
     println!(
-        "cargo::error={} has no libwuthracomb.a and no libstation.a: write it by `rt staticlib \
-         station`, or name its folder in WUTHRACOMB_LIB_DIR",
+        "cargo::error={} has no libwuthracomb.a and no libstation.a: write it by `make library`, \
+         or name its folder in WUTHRACOMB_LIB_DIR",
         folder.display()
     );
 }
