@@ -3,6 +3,8 @@ pub mod Turns
 pub mod Merges
 pub mod Fine
 pub mod Cursors
+pub mod Goes
+pub mod Looks
 pub mod Writes
 pub mod Orders
 pub mod Holds

@@ -18,7 +18,11 @@ fn main(rt: HostRuntime) -> io::Result<()> {
 fn sound_logs(rt: &impl Print) -> io::Result<()> {
     log(rt, b"empty", b"")?;
     log(rt, b"one record of zeros", b"\0\0\0\0\0\0\0\0")?;
-    log(rt, b"the last place, the brake", b"\x1f\xbf\x02\0\x1f\x09\0\0")?;
+    log(
+        rt,
+        b"the last place, the brake",
+        b"\x1f\xbf\x02\0\x1f\x09\0\0",
+    )?;
     log(rt, b"by carrier", b"\0\0\0\0\0\x01\0\0\0\0\0\0\x01\x02\0\0")?;
     log(rt, b"by step", b"\0\0\0\0\x05\x01\0\0\x01\0\0\0\0\x02\0\0")
 }
@@ -31,7 +35,11 @@ fn damaged_logs(rt: &impl Print) -> io::Result<()> {
     log(rt, b"carrier 32", b"\0\0\0\0\x20\0\0\0")?;
     log(rt, b"lever 10", b"\0\0\0\0\0\x0a\0\0")?;
     log(rt, b"step 180000", b"\x20\xbf\x02\0\0\0\0\0")?;
-    log(rt, b"one place twice", b"\0\0\0\0\0\x01\0\0\0\0\0\0\0\x02\0\0")?;
+    log(
+        rt,
+        b"one place twice",
+        b"\0\0\0\0\0\x01\0\0\0\0\0\0\0\x02\0\0",
+    )?;
     log(
         rt,
         b"step descends",

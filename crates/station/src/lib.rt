@@ -1,6 +1,6 @@
 // The C face of `record`, `session`, `merge`, `load` and `rope`: numbers and slices only, as
-// include/wuthracomb.h has them. A slice is a pointer and a length; every function answers a number
-// of documents 01 and 02, or 255 for an accepted call other than a delivery.
+// include/wuthracomb.h has them; `station_c` exports it. A slice is a pointer and a length; each
+// function answers a number of documents 01 and 02, or 255 for an accepted call but a delivery.
 //   words      a session as nine words
 //   records    one record, a log, the records of one step
 //   calls      opening, reading, delivery, replay

@@ -8,8 +8,7 @@ use basis::Number;
 use load::{Load, Stepped};
 
 // One step of a hanging load, its x and v in two words.
-#[unsafe(no_mangle)]
-pub extern "C" fn wuthracomb_load_step(stiffness: u32, load: &mut [i32]) -> u32
+pub fn wuthracomb_load_step(stiffness: u32, load: &mut [i32]) -> u32
     ensures stepped { LoadStepSays stiffness load.old
         (filled result load.new) }
 {

@@ -74,8 +74,7 @@ fn forces_of(kinds: &[u32], numbers: &[f64]) -> [Force; 8]
 }
 
 // One step of a rope end.
-#[unsafe(no_mangle)]
-pub extern "C" fn wuthracomb_rope_step(kinds: &[u32], numbers: &[f64], point: &mut [f64]) -> u32
+pub fn wuthracomb_rope_step(kinds: &[u32], numbers: &[f64], point: &mut [f64]) -> u32
     ensures stepped { RopeStepSays kinds.now numbers.now point.old
         (filled result point.new) }
 {

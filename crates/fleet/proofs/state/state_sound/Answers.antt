@@ -18,13 +18,21 @@ is_sound-requires c =
 pub returns-then-not-is_sound : goal.returns-then-not-is_sound
 unfolding sound_state free_for
 returns-then-not-is_sound c =
-    let tested : let i = c.loop-i.i in let world = world_of c.args.yard c.args.cells.now c.args.boxes.now in c.is_sound.result ≡ sound_carrier (free_for world i c.args.state.now) (carrier i c.args.state.now) = c.is_sound.ensures.rule ∙ rw (c.at.ensures.size, c.load.ensures.loaded) in
+    let tested : let i = c.loop-i.i in
+    let world = world_of c.args.yard c.args.cells.now c.args.boxes.now in
+    c.is_sound.result
+    ≡ sound_carrier (free_for world i c.args.state.now) (carrier i c.args.state.now) =
+    c.is_sound.ensures.rule ∙ rw (c.at.ensures.size, c.load.ensures.loaded) in
     record { rule = stops _ (search rules) tested c.if-not-is_sound.true }
 
 pub loop-i-preserved : goal.loop-i-preserved
 unfolding free_for
 loop-i-preserved c =
-    let tested : let i = c.loop-i.i in let world = world_of c.args.yard c.args.cells.now c.args.boxes.now in c.is_sound.result ≡ sound_carrier (free_for world i c.args.state.now) (carrier i c.args.state.now) = c.is_sound.ensures.rule ∙ rw (c.at.ensures.size, c.load.ensures.loaded) in (
+    let tested : let i = c.loop-i.i in
+    let world = world_of c.args.yard c.args.cells.now c.args.boxes.now in
+    c.is_sound.result
+    ≡ sound_carrier (free_for world i c.args.state.now) (carrier i c.args.state.now) =
+    c.is_sound.ensures.rule ∙ rw (c.at.ensures.size, c.load.ensures.loaded) in (
       search rules,
       goes_on _ c.loop-i.invariant.1 tested c.if-not-is_sound.false,
     )

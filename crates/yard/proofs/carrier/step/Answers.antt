@@ -29,13 +29,15 @@ new_speed-u-requires c =
     let place : ℤ → ℤ → Bool = free c.args.yard c.args.cells.now c.args.size in
     let lever : ℤ = lever_after c.args.held the.lever in
     let good : Good place the = good_of place the c.requires.sound in
-    let lever_fits : nat_abs lever ≤ 9 = from_zero 9 lever (lever_holds c.args.held the.lever c.requires.table good.lever) in
+    let lever_fits : nat_abs lever ≤ 9 =
+    from_zero 9 lever (lever_holds c.args.held the.lever c.requires.table good.lever) in
     let lever_is : read c.lever_after-lever.result ≡ lever = rw (
       got c.lever_after-lever.result c.lever_after-lever.type_inv,
       c.lever_after-lever.ensures.part,
       got the.lever (search rules),
     ) in
-    let position_is : c.magnitude-position.result ≡ nat_abs lever = c.magnitude-position.ensures.size ∙ ap nat_abs lever_is in
+    let position_is : c.magnitude-position.result ≡ nat_abs lever =
+    c.magnitude-position.ensures.size ∙ ap nat_abs lever_is in
     record {
       sound =
           rw (position_is, got the.u (search rules)) (lever_fits, good.u);
@@ -47,13 +49,15 @@ new_speed-v-requires c =
     let place : ℤ → ℤ → Bool = free c.args.yard c.args.cells.now c.args.size in
     let lever : ℤ = lever_after c.args.held the.lever in
     let good : Good place the = good_of place the c.requires.sound in
-    let lever_fits : nat_abs lever ≤ 9 = from_zero 9 lever (lever_holds c.args.held the.lever c.requires.table good.lever) in
+    let lever_fits : nat_abs lever ≤ 9 =
+    from_zero 9 lever (lever_holds c.args.held the.lever c.requires.table good.lever) in
     let lever_is : read c.lever_after-lever.result ≡ lever = rw (
       got c.lever_after-lever.result c.lever_after-lever.type_inv,
       c.lever_after-lever.ensures.part,
       got the.lever (search rules),
     ) in
-    let position_is : c.magnitude-position.result ≡ nat_abs lever = c.magnitude-position.ensures.size ∙ ap nat_abs lever_is in
+    let position_is : c.magnitude-position.result ≡ nat_abs lever =
+    c.magnitude-position.ensures.size ∙ ap nat_abs lever_is in
     record {
       sound =
           rw (position_is, got the.v (search rules)) (lever_fits, good.v);
@@ -71,7 +75,8 @@ slide-along_x-requires c =
       c.lever_after-lever.ensures.part,
       got the.lever (search rules),
     ) in
-    let position_is : c.magnitude-position.result ≡ nat_abs lever = c.magnitude-position.ensures.size ∙ ap nat_abs lever_is in
+    let position_is : c.magnitude-position.result ≡ nat_abs lever =
+    c.magnitude-position.ensures.size ∙ ap nat_abs lever_is in
     let u_is : read c.new_speed-u.result ≡ u = rw (
       got c.new_speed-u.result c.new_speed-u.type_inv,
       c.new_speed-u.ensures.part,
@@ -81,7 +86,12 @@ slide-along_x-requires c =
     let slow = speed_within X (nat_abs lever) the.u good.u in
     let x = got the.x (search rules) in
     let y = got the.y (search rules) in
-    record { laid = c.requires.laid; sized = c.requires.sized; slow = rw u_is slow; stands = rw (x, y) good.here }
+    record {
+      laid = c.requires.laid;
+      sized = c.requires.sized;
+      slow = rw u_is slow;
+      stands = rw (x, y) good.here;
+    }
 
 pub slide-along_y-requires : goal.slide-along_y-requires
 slide-along_y-requires c =
@@ -97,7 +107,8 @@ slide-along_y-requires c =
       c.lever_after-lever.ensures.part,
       got the.lever (search rules),
     ) in
-    let position_is : c.magnitude-position.result ≡ nat_abs lever = c.magnitude-position.ensures.size ∙ ap nat_abs lever_is in
+    let position_is : c.magnitude-position.result ≡ nat_abs lever =
+    c.magnitude-position.ensures.size ∙ ap nat_abs lever_is in
     let u_is : read c.new_speed-u.result ≡ u = rw (
       got c.new_speed-u.result c.new_speed-u.type_inv,
       c.new_speed-u.ensures.part,
@@ -114,11 +125,17 @@ slide-along_y-requires c =
     c.slide-along_x.ensures.moved
     ∙ slides_alike _ X u_is (got w.x (search rules))
     (got w.y (search rules)) in
-    let new_x_is : read c.slide-along_x.result.at ≡ along_x.at = rw (got c.slide-along_x.result.at (search rules), along_x_is) in
+    let new_x_is : read c.slide-along_x.result.at ≡ along_x.at =
+    rw (got c.slide-along_x.result.at (search rules), along_x_is) in
     let slow = speed_within Y (nat_abs lever) the.v good.v in
     let there = slide_x_free place u the.x the.y good.here in
     let y = got the.y (search rules) in
-    record { laid = c.requires.laid; sized = c.requires.sized; slow = rw v_is slow; stands = rw (new_x_is, y) there }
+    record {
+      laid = c.requires.laid;
+      sized = c.requires.sized;
+      slow = rw v_is slow;
+      stands = rw (new_x_is, y) there;
+    }
 
 pub returns : goal.returns
 unfolding step
@@ -134,7 +151,8 @@ returns c =
       c.lever_after-lever.ensures.part,
       got the.lever (search rules),
     ) in
-    let position_is : c.magnitude-position.result ≡ nat_abs lever = c.magnitude-position.ensures.size ∙ ap nat_abs lever_is in
+    let position_is : c.magnitude-position.result ≡ nat_abs lever =
+    c.magnitude-position.ensures.size ∙ ap nat_abs lever_is in
     let u_is : read c.new_speed-u.result ≡ u = rw (
       got c.new_speed-u.result c.new_speed-u.type_inv,
       c.new_speed-u.ensures.part,
@@ -151,7 +169,8 @@ returns c =
     c.slide-along_x.ensures.moved
     ∙ slides_alike _ X u_is (got w.x (search rules))
     (got w.y (search rules)) in
-    let new_x_is : read c.slide-along_x.result.at ≡ along_x.at = rw (got c.slide-along_x.result.at (search rules), along_x_is) in
+    let new_x_is : read c.slide-along_x.result.at ≡ along_x.at =
+    rw (got c.slide-along_x.result.at (search rules), along_x_is) in
     let along_y_is : c.slide-along_y.result ≡ slide place Y v along_x.at the.y = let w = the in
     c.slide-along_y.ensures.moved
     ∙ slides_alike _ Y v_is new_x_is

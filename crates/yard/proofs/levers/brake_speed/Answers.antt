@@ -11,7 +11,8 @@ use Rattle.yard.proofs.levers.brake_speed.Goals as goal
 pub returns-then-old-gt-BRAKE : goal.returns-then-old-gt-BRAKE
 unfolding brake
 returns-then-old-gt-BRAKE c =
-    let less_fits : SFits w32 (c.args.old -ℤ pos brake_units) = small _ (omega (arith, abs_sub c.args.old (pos brake_units))) in
+    let less_fits : SFits w32 (c.args.old -ℤ pos brake_units) =
+    small _ (omega (arith, abs_sub c.args.old (pos brake_units))) in
     record {
       braked =
           let old = to_z-of_z c.ranges.old in
@@ -21,7 +22,8 @@ returns-then-old-gt-BRAKE c =
 pub returns-then-old : goal.returns-then-old
 unfolding brake
 returns-then-old c =
-    let more_fits : SFits w32 (c.args.old +ℤ pos brake_units) = small _ (omega (arith, abs_add c.args.old (pos brake_units))) in
+    let more_fits : SFits w32 (c.args.old +ℤ pos brake_units) =
+    small _ (omega (arith, abs_add c.args.old (pos brake_units))) in
     record {
       braked =
           let old = to_z-of_z c.ranges.old in

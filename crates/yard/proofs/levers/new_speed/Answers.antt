@@ -23,7 +23,9 @@ returns-then-lever c =
 
 pub pushed_speed-requires : goal.pushed_speed-requires
 pushed_speed-requires c =
-    let push_is : let a = c.args in read c.pick.result ≡ along a.axis (push_of a.lever).x (push_of a.lever).y = let pair = c.push_of-push in
+    let push_is : let a = c.args in
+    read c.pick.result ≡ along a.axis (push_of a.lever).x (push_of a.lever).y =
+    let pair = c.push_of-push in
     rw (
       got c.pick.result c.pick.type_inv,
       c.pick.ensures.along,
@@ -33,13 +35,16 @@ pushed_speed-requires c =
     ) in
     record {
       small =
-          rw (to_z-of_z c.ranges.old, push_is) (c.requires.sound.1, push_within c.args.axis c.args.lever);
+          rw (to_z-of_z c.ranges.old, push_is)
+          (c.requires.sound.1, push_within c.args.axis c.args.lever);
     }
 
 pub returns : goal.returns
 unfolding new_speed
 returns c =
-    let push_is : let a = c.args in read c.pick.result ≡ along a.axis (push_of a.lever).x (push_of a.lever).y = let pair = c.push_of-push in
+    let push_is : let a = c.args in
+    read c.pick.result ≡ along a.axis (push_of a.lever).x (push_of a.lever).y =
+    let pair = c.push_of-push in
     rw (
       got c.pick.result c.pick.type_inv,
       c.pick.ensures.along,

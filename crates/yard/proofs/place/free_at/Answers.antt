@@ -13,7 +13,8 @@ returns-then-y-h c = record { place = sym (past_bottom _ _ _ _ _ c.if-y-h.true) 
 
 pub returns-in-Nothing : goal.returns-in-Nothing
 returns-in-Nothing c =
-    let finds : let a = c.args in Finds a.yard a.cells.now (block_of a.size a.x a.y) c.wall_in.result = let a = c.args in
+    let finds : let a = c.args in
+    Finds a.yard a.cells.now (block_of a.size a.x a.y) c.wall_in.result = let a = c.args in
     subst (λ block. Finds a.yard a.cells.now block c.wall_in.result)
     c.block_of.ensures.covered c.wall_in.ensures.met in
     record {
@@ -24,12 +25,14 @@ returns-in-Nothing c =
 
 pub returns-in-Wall : goal.returns-in-Wall
 returns-in-Wall c =
-    let finds : let a = c.args in Finds a.yard a.cells.now (block_of a.size a.x a.y) c.wall_in.result = let a = c.args in
+    let finds : let a = c.args in
+    Finds a.yard a.cells.now (block_of a.size a.x a.y) c.wall_in.result = let a = c.args in
     subst (λ block. Finds a.yard a.cells.now block c.wall_in.result)
     c.block_of.ensures.covered c.wall_in.ensures.met in
     record {
       place =
           let met = rw c.in-Wall.is at finds in
           sym
-          (wall_met _ _ _ _ _ (omega arith) (omega arith) c.requires.sized _ _ met.inside met.there);
+          (wall_met _ _ _ _ _ (omega arith)
+          (omega arith) c.requires.sized _ _ met.inside met.there);
     }

@@ -16,7 +16,10 @@ rows left right top bottom = record { left = left; right = right; top = top; bot
 pub returns-then-i-start : goal.returns-then-i-start
 unfolding wall
 returns-then-i-start c =
-    let clear : let a = c.args in (column : ℕ) → a.block.left ≤ column → c.row_start-start.result + column < c.first_wall-i.result → wall a.yard a.cells.now column c.loop-row.row ≡ false = λ column l h. let start = c.row_start-start.ensures.start.0 in
+    let clear : let a = c.args in
+    (column : ℕ) → a.block.left ≤ column → c.row_start-start.result + column < c.first_wall-i.result
+    → wall a.yard a.cells.now column c.loop-row.row ≡ false =
+    λ column l h. let start = c.row_start-start.ensures.start.0 in
     c.first_wall-i.ensures.first.earlier _ (omega arith) (omega arith) in
     record {
       met =
@@ -36,7 +39,10 @@ returns-then-i-start c =
 pub loop-row-preserved : goal.loop-row-preserved
 unfolding wall
 loop-row-preserved c =
-    let clear : let a = c.args in (column : ℕ) → a.block.left ≤ column → c.row_start-start.result + column < c.first_wall-i.result → wall a.yard a.cells.now column c.loop-row.row ≡ false = λ column l h. let start = c.row_start-start.ensures.start.0 in
+    let clear : let a = c.args in
+    (column : ℕ) → a.block.left ≤ column → c.row_start-start.result + column < c.first_wall-i.result
+    → wall a.yard a.cells.now column c.loop-row.row ≡ false =
+    λ column l h. let start = c.row_start-start.ensures.start.0 in
     c.first_wall-i.ensures.first.earlier _ (omega arith) (omega arith) in
     let passed = c.loop-row in (
       search rules,

@@ -6,7 +6,10 @@ use Rattle.yard.proofs.rule9.sizes_hold.Goals as goal
 
 pub returns-then-not-size_holds : goal.returns-then-not-size_holds
 unfolding sizes_hold
-returns-then-not-size_holds c = record { sizes = stops _ (search rules) c.size_holds.ensures.size c.if-not-size_holds.true }
+returns-then-not-size_holds c =
+    record {
+      sizes = stops _ (search rules) c.size_holds.ensures.size c.if-not-size_holds.true;
+    }
 
 pub returns : goal.returns
 unfolding sizes_hold

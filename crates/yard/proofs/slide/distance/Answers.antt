@@ -18,10 +18,15 @@ loop-k-init c =
 
 pub clear_on-requires : goal.clear_on-requires
 clear_on-requires c =
-    let most_small : c.magnitude-most.result ≤ 200 = rw (c.magnitude-most.ensures.size, to_z-of_z c.ranges.speed) c.requires.slow in
+    let most_small : c.magnitude-most.result ≤ 200 =
+    rw (c.magnitude-most.ensures.size, to_z-of_z c.ranges.speed) c.requires.slow in
     let n = near _ _ _ _ _ c.requires.laid c.requires.stands in
     let few : c.loop-k.k + 1 ≤ 200 = omega (arith, most_small) in
-    record { laid = c.requires.laid; sized = c.requires.sized; near = rw (to_z-of_z c.ranges.x, to_z-of_z c.ranges.y) (n.0, n.1, few) }
+    record {
+      laid = c.requires.laid;
+      sized = c.requires.sized;
+      near = rw (to_z-of_z c.ranges.x, to_z-of_z c.ranges.y) (n.0, n.1, few);
+    }
 
 pub returns-then-not-clear_on : goal.returns-then-not-clear_on
 returns-then-not-clear_on c =

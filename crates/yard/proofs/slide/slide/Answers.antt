@@ -49,7 +49,8 @@ returns-then-units-magnitude c =
       from_is,
       units_is,
     ) in
-    let most_is : c.magnitude.result ≡ nat_abs c.args.speed = rw (c.magnitude.ensures.size, to_z-of_z c.ranges.speed) in
+    let most_is : c.magnitude.result ≡ nat_abs c.args.speed =
+    rw (c.magnitude.ensures.size, to_z-of_z c.ranges.speed) in
     record {
       moved =
           let fewer = lt-ltb _ _ c.if-units-magnitude.true in
@@ -76,7 +77,8 @@ returns c =
       from_is,
       units_is,
     ) in
-    let most_is : c.magnitude.result ≡ nat_abs c.args.speed = rw (c.magnitude.ensures.size, to_z-of_z c.ranges.speed) in
+    let most_is : c.magnitude.result ≡ nat_abs c.args.speed =
+    rw (c.magnitude.ensures.size, to_z-of_z c.ranges.speed) in
     record {
       moved =
           let all = le-ltb _ _ c.if-units-magnitude.false in
