@@ -2,17 +2,19 @@
 of the public entries, and what each of them names.
 
 A public entry is a function that its crate's lib.rt gives out and that has no `requires`; of a crate with C functions,
-each of those. A crate that stands on the kit's io is a program's: its entry is the function `program`, if it has one.
+each of those. A crate with a main.rt is a program's, as is one on which programs' crates stand and no others: its entry
+is the function `program`, if it has one.
 """
 import os
 import re
 import textwrap
 
-WORD = re.compile(r"[^\s(){},;:.∷→≡×λ⌜⌝]+")
+WORD = re.compile(r"[^\s(){},;:.∷→≡×λ]+")
 START = re.compile(r"(?:abbrev pub|unfoldable pub|pub record|pub data|pub(?! mod))\s+([^\s:({]+)")
 PROGRAM = re.compile(r"^fn program\(.*?\n\{\n", re.S | re.M)
 HEAD = re.compile(r"^( *)pub (extern \"C\" )?fn (\w+)(.*?)\n\1\{\n", re.S | re.M)
-SPECS = r"^(?:ghost )?use Rattle·(\w+)(?:·specs)?\.specs\."
+USE = re.compile(r"^(pub )?use ((?:\w+::)+)(?:(\w+)|\{([^}]*)\});", re.M)
+SPECS = r"^(?:ghost )?use Rattle\.(\w+)\.specs\."
 DEFINITION, TYPE, ENTRY = "definition", "type", "entry"
 
 
@@ -80,9 +82,17 @@ def types(crate, path):
             yield Item(TYPE, crate, path, start[1], lines, first, last)
 
 
+def uses(text, form):
+    """The paths that a text takes in by `pub use`, if `form` is so, or else by `use`."""
+    for public, place, name, names in USE.findall(text):
+        if public == form:
+            yield from (place + name for name in [name] + re.findall(r"\w+", names) if name)
+
+
 def entries(crate, path, lib, foreign):
     text = read(path)
-    given = set(re.findall(r"^pub (?:use (?:\w+::)*|struct |enum )(\w+)", lib, re.M))
+    given = set(re.findall(r"^pub (?:struct|enum) (\w+)", lib, re.M))
+    given |= {name.split("::")[-1] for name in uses(lib, "pub ")}
     for head in HEAD.finditer(text):
         owner = re.findall(r"^impl (\w+)", text[:head.start()], re.M)[-1] if head[1] else ""
         out = owner in given if owner else head[3] in given or path.endswith("/lib.rt")
@@ -125,11 +135,16 @@ class Tree:
         """How many crates stand below one another under this one."""
         return max((1 + self.floor(below) for below in self.below.get(crate, [])), default=0)
 
+    def programs(self, crate):
+        """Whether a crate is a program's."""
+        above = [name for name, below in self.below.items() if crate in below]
+        return os.path.isfile(f"crates/{crate}/src/main.rt") or bool(above) and all(map(self.programs, above))
+
     def crate(self, crate):
         """A crate's types, then its definitions, then the heads of its entries; of a program no types."""
         source = files(f"crates/{crate}/src", ".rt", "lib.rt", r"^(?:pub )?mod (\w+);")
         specs = files(f"crates/{crate}/specs", ".antt", "Lib.antt", r"^pub mod (\w+)")
-        lib = "" if "io" in self.below[crate] else read(f"crates/{crate}/src/lib.rt")
+        lib = "" if self.programs(crate) else read(f"crates/{crate}/src/lib.rt")
         foreign = any("pub extern " in read(path) for path in source)
         found = [item for path in source for item in types(crate, path)] if lib else []
         found += [item for path in specs for item in definitions(crate, path)]
@@ -145,15 +160,15 @@ class Tree:
                 old, _, new = pair.partition(" as ")
                 known[new or old] = self.at.get((f"crates/{crate}/specs/{module}.antt", old))
         for crate, place, names in re.findall(
-                SPECS + r"declared\.([\w.]+?)\.(\{[^}]*\}|the-variants as \w+)", text, re.M):
+                SPECS + r"declared\.([\w.]+?)\.(\{[^}]*\}|TheVariants as \w+)", text, re.M):
             *folders, name = place.split(".")
             path = f"crates/{crate}/src/{'/'.join(folders) or 'lib'}.rt"
-            form = "." if names.startswith("the-variants") else ""
+            form = "." if names.startswith("TheVariants") else ""
             known[re.findall(r"\w+", names)[-1] + form] = self.at.get((path, name))
         if item.path.endswith(".rt"):
+            taken = set(uses(text, ""))
             for other in self.items:
-                if other.kind == TYPE and (other.crate == item.crate
-                                           or re.search(rf"^use {other.crate}::{other.name};", text, re.M)):
+                if other.kind == TYPE and (other.crate == item.crate or f"{other.crate}::{other.name}" in taken):
                     known.setdefault(other.name, other)
         else:
             known.update({name: other for (path, name), other in self.at.items() if path == item.path})

@@ -131,7 +131,7 @@ module _ {world : World} (law : Lawful world) where
   pub kept_run : {s : Session world} (calls : List Call) → Kept s → Kept (run s calls)
   unfolding run
   kept_run [] k = k
-  kept_run (call ∷ calls) k = kept_run calls (kept_next call k)
+  kept_run {s} (call ∷ calls) k = kept_run {s = next s call} calls (kept_next call k)
 
   pub kept : {s : Session world} → Reached s → Kept s
   kept reached =

@@ -61,6 +61,7 @@ module _ (world : World) where
   pub row_saved : (n t : ℕ) (log : List Record) → t < n → n ≤ t + row_count
       → get_or (rows_after world n log) (t % row_count) world.blank ≡ after world t log
   unfolding rows_after
+  row_saved zero t log h k = elim h [ ]
   row_saved (suc n) t log h k = go (eqb t n) refl (row_saved n t log)
     where
       rows : List world.State

@@ -26,7 +26,7 @@ use Rattle.clock.proofs.Sound.{is_sound}
 use Rattle.fleet.specs.State.{World, state_words}
 use Rattle.fleet.specs.Step.{step_at}
 use Rattle.fleet.specs.Run.{Course, course_of, run_saving, row_of, saved, go_back as backWords}
-use Rattle.fleet.proofs.Rows.{row_end}
+use Rattle.fleet.proofs.SavedRows.{row_end}
 use Rattle.course.specs.Session.{Session, Made, steps, with_log, go_back}
 use Rattle.course.specs.Session.{row_of as modelRow}
 use Rattle.course.specs.Calls.{Outcome, read, taken, held, read_on, take_in, found_in, place_order}

@@ -31,7 +31,7 @@ bits_below (negsuc n) f = omega (arith, f.sfits)
 
 -- An i32 is the number that its bits say.
 pub bits_say : (word : ℤ) → mag word < 2 ^ 31 → to_z w32 (of_z w32 word) ≡ word
-bits_say word h = to_z-of_z (record { sfits = h })
+bits_say word h = to_z-of_z {w = w32} (record { sfits = h })
 
 -- The low 32 bits of a word's 64 are its two's complement,
 low_bits : (word : ℤ) → SFits w32 word → bit_and (of_z w64 word) (2 ^ 32 - 1) ≡ twos_complement word

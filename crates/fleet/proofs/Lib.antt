@@ -4,7 +4,7 @@
 --   Starts      the start is sound, a sound log fits
 --   Steps       one step of all: each carrier is moved once
 --   Joined      runs joined, sound, and moved by no record of another step
---   Rows        where a row stands, what saving one leaves, what a run leaves
+--   SavedRows   where a row stands, what saving one leaves, what a run leaves
 --   Back        going back is as if the records had been held before
 --   Examples    the practice yard, computed
 --   Statements  the statements of specs/Statements.antt
@@ -13,7 +13,7 @@ pub mod Carriers
 pub mod Starts
 pub mod Steps
 pub mod Joined
-pub mod Rows
+pub mod SavedRows
 pub mod Back
 pub mod Examples
 pub mod Statements

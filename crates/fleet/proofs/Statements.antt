@@ -10,7 +10,7 @@ use Rattle.fleet.proofs.Starts.{carrier_start, start_sound}
 use Rattle.fleet.proofs.Steps.{each_moved, same_all}
 use Rattle.fleet.proofs.Joined.{joined, saving_joined, saving_state, run_keeps}
 use Rattle.fleet.proofs.Joined.{same_run, saving_same}
-use Rattle.fleet.proofs.Rows.{course_fits, rows_made, rows_earlier}
+use Rattle.fleet.proofs.SavedRows.{course_fits, rows_made, rows_earlier}
 use Rattle.fleet.proofs.Back.{back_state, back_row}
 
 pub determined : Determined

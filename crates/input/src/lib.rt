@@ -1,8 +1,11 @@
-// An open file, read to its end or until the buffer is full, however it is cut into reads.
+// A reader, as an open file, read to its end or until the buffer is full, however it is cut into
+// reads.
 
 #![tactic(auto)]
 
 ghost use Rattle.input.specs.Read.{ReadIn};
+
+use std::io::Read;
 
 #[derive(Clone, Copy)]
 pub enum Input {
@@ -10,20 +13,16 @@ pub enum Input {
     Failed,
 }
 
-pub fn read_input(fd: i32, buffer: &mut [u8]) -> Input
+pub fn read_input<R: Read>(from: &mut R, buffer: &mut [u8]) -> Input
     ensures read { ReadIn result buffer.new }
 {
     let mut n = 0;
     while n < buffer.len() {
-        let got = libc::read(fd, &mut buffer[n..]);
-        if got < 0 {
-            return Input::Failed;
+        match from.read(&mut buffer[n..]) {
+            Ok(0) => return Input::Read(n),
+            Ok(more) => n += more,
+            Err(_) => return Input::Failed,
         }
-        let more = io::count(got, &buffer[n..]);
-        if more == 0 {
-            return Input::Read(n);
-        }
-        n += more;
     }
     Input::Read(n)
 }

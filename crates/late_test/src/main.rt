@@ -10,8 +10,10 @@ mod late;
 mod pair;
 mod replays;
 
-fn main() {
-    late::run();
-    pair::run();
-    replays::run();
+use std::io;
+
+fn main(rt: HostRuntime) -> io::Result<()> {
+    late::run(&rt)?;
+    pair::run(&rt)?;
+    replays::run(&rt)
 }

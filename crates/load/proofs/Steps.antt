@@ -7,15 +7,16 @@ use native.Mathlib.Nat.{mul-le-mul}
 use native.Mathlib.Omega.{arith}
 use borrow.Author.Tests.{leb-true, leb-false, le-leb, lt-leb}
 use lib.Dec.{leb}
-use lib.IntN.{ℤ, pos, negsuc, nat_abs, ◌+ℤ◌, ◌*ℤ◌}
+use lib.IntN.{ℤ, pos, negsuc, nat_abs, ◌+ℤ◌, ◌-ℤ◌, ◌*ℤ◌}
 use lib.Signed.{le_z, shr_z}
 use mir.Syntax.{w32}
-use mir.Val.{SFits}
+use mir.Val.{SFits, to_z}
+use mir.Facts.{to_z-of_z, to_z_pos}
 use Rattle.basis.specs.Numbers.{LOAD}
 use Rattle.basis.specs.Order.{Order, check, answer, refused, accepted}
 use Rattle.basis.proofs.Order.{passes, fails, gives, held, given}
 use Rattle.basis.proofs.Tests.{never, and_both, not_left, not_right, says_le, says_two}
-use Rattle.basis.proofs.Signed.{small, abs_add, abs_sub, abs_mul}
+use Rattle.basis.proofs.Signed.{read, small, abs_add, abs_sub, abs_mul}
 use Rattle.load.specs.Step.{within, in_range, is_stiffness, quotient, speed_after, moved}
 use Rattle.load.specs.Step.{step_order}
 use Rattle.load.specs.declared.Load.{Load}
@@ -148,3 +149,47 @@ module _ (p : ℕ) (load : Load) (soft : p ≤ 1024) (range : in_range load ≡ 
         speed_size,
         ((says_range load).0 range).0,
       ))
+
+  -- What the machine reads back is what was given,
+  stiffness_back : to_z w32 p ≡ pos p
+  stiffness_back = to_z_pos w32 (omega (arith, soft))
+
+  pub offset_back : read load.x ≡ load.x
+  offset_back = to_z-of_z {w = w32} (small _ (omega (arith, ((says_range load).0 range).0)))
+
+  old_back : read load.v ≡ load.v
+  old_back = to_z-of_z {w = w32} (small _ (omega (arith, ((says_range load).0 range).1)))
+
+  -- and what it computes is what the definitions say: p·x, the new speed, the new offset.
+  pub product_word : SFits w32 (to_z w32 p *ℤ read load.x)
+  product_word = rw (stiffness_back, offset_back) product_fits
+
+  pub difference_word :
+      SFits w32 (read load.v -ℤ read (shr_z (read (to_z w32 p *ℤ read load.x)) 1024))
+  unfolding quotient speed_after
+  difference_word =
+      simp (
+        stiffness_back,
+        offset_back,
+        old_back,
+        to_z-of_z {w = w32} product_fits,
+        to_z-of_z {w = w32} quotient_fits,
+      )
+      speed_fits
+
+  pub speed_back :
+      read (read load.v -ℤ read (shr_z (read (to_z w32 p *ℤ read load.x)) 1024))
+      ≡ speed_after p load
+  unfolding quotient speed_after
+  speed_back =
+      simp (
+        stiffness_back,
+        offset_back,
+        old_back,
+        to_z-of_z {w = w32} product_fits,
+        to_z-of_z {w = w32} quotient_fits,
+        to_z-of_z {w = w32} speed_fits,
+      )
+
+  pub place_back : read (load.x +ℤ speed_after p load) ≡ load.x +ℤ speed_after p load
+  place_back = to_z-of_z {w = w32} place_fits

@@ -3,6 +3,9 @@ pub mod Turns
 pub mod Merges
 pub mod Fine
 pub mod Cursors
+pub mod Goes
+pub mod Looks
+pub mod Writes
 pub mod Orders
 pub mod Holds
 pub mod Ways

@@ -10,9 +10,11 @@ ghost use Rattle.one_log.specs.Written.{program_order, written};
 
 use basis::Limit;
 use input::{Input, read_input};
-use libc::{STDERR_FILENO, STDOUT_FILENO};
 use merge::{Merged, merge_logs};
 use record::{Buffer, Record};
+use std::env::Env;
+use std::rt::Files;
+use std::{fs, io};
 
 // What the program writes for two logs, at the front of the buffer; and how long it is.
 fn program(one: &[u8], two: &[u8], out: &mut [u8]) -> usize
@@ -31,35 +33,37 @@ fn program(one: &[u8], two: &[u8], out: &mut [u8]) -> usize
 }
 
 // The file that an argument names.
-fn read_argument(i: usize, buffer: &mut [u8]) -> Input
+fn read_argument(rt: &(impl Env + Files), i: usize, buffer: &mut [u8]) -> Input
     ensures read { ReadIn result buffer.new }
 {
-    let mut path = io::buffer();
-    let n = os::arg(i, &mut path);
-    let fd = os::open_read(&path[..n]);
-    if fd < 0 {
+    let mut path = [0u8; 4096];
+    let Ok(n) = rt.arg(i, &mut path) else {
         return Input::Failed;
-    }
-    read_input(fd, buffer)
+    };
+    let Ok(name) = str::from_utf8(&path[..n]) else {
+        return Input::Failed;
+    };
+    let Ok(mut file) = fs::open(rt, name) else {
+        return Input::Failed;
+    };
+    read_input(&mut file, buffer)
 }
 
-fn failed() {
-    io::write_all(STDERR_FILENO, b"one_log: a log can't be read\n");
+fn failed(rt: &impl Eprint) -> io::Result<()> {
+    eprintln!(rt; "one_log: a log can't be read")
 }
 
 // Each log has room for one byte more than a log has: one that fills it is refused.
-fn main() {
+fn main(rt: HostRuntime) -> io::Result<()> {
     let mut one = [0u8; Buffer::SIZE + 1];
     let mut two = [0u8; Buffer::SIZE + 1];
     let mut out = [0u8; Buffer::SIZE];
-    let Input::Read(m) = read_argument(1, &mut one) else {
-        failed();
-        return;
+    let Input::Read(m) = read_argument(&rt, 1, &mut one) else {
+        return failed(&rt);
     };
-    let Input::Read(n) = read_argument(2, &mut two) else {
-        failed();
-        return;
+    let Input::Read(n) = read_argument(&rt, 2, &mut two) else {
+        return failed(&rt);
     };
     let end = program(&one[..m], &two[..n], &mut out);
-    io::write_all(STDOUT_FILENO, &out[..end]);
+    rt.write_all(&out[..end])
 }

@@ -14,7 +14,6 @@ ghost use Rattle.rerun.specs.Text.{program_text, text_room};
 
 use ended::rerun;
 use input::{Input, read_input};
-use libc::{STDERR_FILENO, STDIN_FILENO, STDOUT_FILENO};
 use record::Buffer;
 use text::{Text, lines};
 
@@ -28,17 +27,15 @@ fn program(input: &[u8], text: &mut [u8]) -> usize
 }
 
 // The input has room for one byte more than a log has: one that fills it is refused.
-fn main() {
+fn main(rt: HostRuntime) -> std::io::Result<()> {
     let mut bytes = [0u8; Buffer::SIZE + 1];
     let mut text = [0u8; Text::SIZE];
-    let input = read_input(STDIN_FILENO, &mut bytes);
+    let input = read_input(&mut rt.reader(), &mut bytes);
     match input {
         Input::Read(n) => {
             let end = program(&bytes[..n], &mut text);
-            io::write_all(STDOUT_FILENO, &text[..end]);
+            rt.write_all(&text[..end])
         }
-        Input::Failed => {
-            io::write_all(STDERR_FILENO, b"rerun: standard input can't be read\n");
-        }
+        Input::Failed => eprintln!(rt; "rerun: standard input can't be read"),
     }
 }

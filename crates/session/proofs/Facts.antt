@@ -1,5 +1,5 @@
 -- The tests of rule 10 and of '*Sound* means' say the facts of specs/Facts.antt, both ways.
-use Prim.Native.Nat.{ℕ, ◌*◌}
+use Prim.Native.Nat.{ℕ}
 use mathlib.Core.Path.{◌≡◌}
 use mathlib.Core.Logic.Iff
 use mathlib.Core.Logic.{◌↔◌}

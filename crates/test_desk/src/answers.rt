@@ -4,6 +4,7 @@ use clock::Clock;
 use digest::Digest;
 use session::{Delivered, Digested, Running, Session};
 use shown::Shown;
+use std::io;
 use yard::Yard;
 
 // What stands for a session where none is open yet.
@@ -28,11 +29,11 @@ pub fn running(answer: Running, old: Session) -> Session {
     }
 }
 
-pub fn say_running(answer: Running) {
-    say::text(b":");
+pub fn say_running(rt: &impl Print, answer: Running) -> io::Result<()> {
+    say::text(rt, b":")?;
     match answer {
-        Running::Open(session) => say::words(session.clock),
-        Running::Refused(number) => say::refused(number),
+        Running::Open(session) => say::words(rt, session.clock),
+        Running::Refused(number) => say::refused(rt, number),
     }
 }
 
@@ -45,35 +46,35 @@ pub fn delivered(answer: Delivered, old: Session) -> Session {
     }
 }
 
-pub fn say_record(step: u32, carrier: u8, lever: u8) {
-    say::named(b"deliver", step as u64);
-    say::number(carrier as u64);
-    say::number(lever as u64);
+pub fn say_record(rt: &impl Print, step: u32, carrier: u8, lever: u8) -> io::Result<()> {
+    say::named(rt, b"deliver", step as u64)?;
+    say::number(rt, carrier as u64)?;
+    say::number(rt, lever as u64)
 }
 
-pub fn say_delivered(answer: Delivered) {
-    say::text(b":");
+pub fn say_delivered(rt: &impl Print, answer: Delivered) -> io::Result<()> {
+    say::text(rt, b":")?;
     match answer {
-        Delivered::Taken(session) => say::named(b" TAKEN, held", session.held as u64),
-        Delivered::Held(session) => say::named(b" HELD, held", session.held as u64),
-        Delivered::Refused(number) => say::refused(number),
+        Delivered::Taken(session) => say::named(rt, b" TAKEN, held", session.held as u64),
+        Delivered::Held(session) => say::named(rt, b" HELD, held", session.held as u64),
+        Delivered::Refused(number) => say::refused(rt, number),
     }
 }
 
-pub fn say_digest(answer: Digested) {
-    say::text(b"digest:");
+pub fn say_digest(rt: &impl Print, answer: Digested) -> io::Result<()> {
+    say::text(rt, b"digest:")?;
     match answer {
-        Digested::Value(value) => say::hex(b"", value),
-        Digested::Refused(number) => say::refused(number),
+        Digested::Value(value) => say::hex(rt, b"", value),
+        Digested::Refused(number) => say::refused(rt, number),
     }
 }
 
-pub fn say_shown(carrier: u32, answer: Shown) {
-    say::named(b"shown", carrier as u64);
-    say::text(b":");
+pub fn say_shown(rt: &impl Print, carrier: u32, answer: Shown) -> io::Result<()> {
+    say::named(rt, b"shown", carrier as u64)?;
+    say::text(rt, b":")?;
     match answer {
-        Shown::At(place) => say::place(place),
-        Shown::Refused(number) => say::refused(number),
+        Shown::At(place) => say::place(rt, place)?,
+        Shown::Refused(number) => say::refused(rt, number)?,
     }
-    say::text(b"\n");
+    say::text(rt, b"\n")
 }

@@ -1,86 +1,75 @@
 // What is written: texts, numbers, words of a clock and of a state, bit patterns.
 use clock::Clock;
-use libc::STDOUT_FILENO;
 use shown::Place;
-use yard::magnitude;
+use std::io;
 
-pub fn text(bytes: &[u8]) {
-    io::write_all(STDOUT_FILENO, bytes);
+pub fn text(rt: &impl Print, bytes: &[u8]) -> io::Result<()> {
+    rt.write_all(bytes)
 }
 
-pub fn title(bytes: &[u8]) {
-    text(b"# ");
-    text(bytes);
-    text(b"\n");
+pub fn title(rt: &impl Print, bytes: &[u8]) -> io::Result<()> {
+    text(rt, b"# ")?;
+    text(rt, bytes)?;
+    text(rt, b"\n")
 }
 
-pub fn number(n: u64) {
-    text(b" ");
-    io::print_decimal(STDOUT_FILENO, n);
+pub fn number(rt: &impl Print, n: u64) -> io::Result<()> {
+    print!(rt; " {n}")
 }
 
-pub fn named(name: &[u8], n: u64) {
-    text(name);
-    number(n);
+pub fn named(rt: &impl Print, name: &[u8], n: u64) -> io::Result<()> {
+    text(rt, name)?;
+    number(rt, n)
 }
 
-pub fn hex(name: &[u8], value: u32) {
-    text(name);
-    text(b" ");
-    io::print_hex(STDOUT_FILENO, value as u64, 8);
+pub fn hex(rt: &impl Print, name: &[u8], value: u32) -> io::Result<()> {
+    text(rt, name)?;
+    print!(rt; " {value:08x}")
 }
 
 // What a reading changes beside the last reading.
-pub fn words(clock: Clock) {
-    named(b" steps", clock.steps);
-    named(b" remainder", clock.remainder);
-    named(b" cut", clock.cut);
+pub fn words(rt: &impl Print, clock: Clock) -> io::Result<()> {
+    named(rt, b" steps", clock.steps)?;
+    named(rt, b" remainder", clock.remainder)?;
+    named(rt, b" cut", clock.cut)
 }
 
 // The words of a state.
-pub fn state(words: &[i32]) {
-    let mut i = 0;
-    while i < words.len() {
-        word(words[i]);
-        i += 1;
+pub fn state(rt: &impl Print, words: &[i32]) -> io::Result<()> {
+    for z in words {
+        print!(rt; " {z}")?;
     }
-}
-
-fn word(z: i32) {
-    if z < 0 {
-        text(b" -");
-    } else {
-        text(b" ");
-    }
-    io::print_decimal(STDOUT_FILENO, magnitude(z) as u64);
+    Ok(())
 }
 
 // The bit patterns of a place.
-pub fn place(at: Place) {
+pub fn place(rt: &impl Print, at: Place) -> io::Result<()> {
     let x = at.x;
     let y = at.y;
-    text(b" ");
-    pattern(x);
-    text(b" ");
-    pattern(y);
+    text(rt, b" ")?;
+    pattern(rt, x)?;
+    text(rt, b" ")?;
+    pattern(rt, y)
 }
 
 // Nothing for a NaN, which no shown place has.
-fn pattern(x: f64) {
+fn pattern(rt: &impl Print, x: f64) -> io::Result<()> {
     if x == x {
-        io::print_hex(STDOUT_FILENO, f64::to_bits(x), 16);
+        let bits = f64::to_bits(x);
+        print!(rt; "{bits:016x}")?;
     }
+    Ok(())
 }
 
 // A refusal by its number in document 01's table.
-pub fn refused(number: u8) {
-    named(b" refused", number as u64);
+pub fn refused(rt: &impl Print, number: u8) -> io::Result<()> {
+    named(rt, b" refused", number as u64)
 }
 
 // The end of a line: whether the lent bytes and words have the digest that they had.
-pub fn ended(before: u32, after: u32) {
+pub fn ended(rt: &impl Print, before: u32, after: u32) -> io::Result<()> {
     if before == after {
-        text(b", nothing changed");
+        text(rt, b", nothing changed")?;
     }
-    text(b"\n");
+    text(rt, b"\n")
 }

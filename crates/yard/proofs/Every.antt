@@ -1,7 +1,7 @@
 -- Laws of `every`: all numbers below n pass a test.
 use Prim.Native.Nat.{ℕ, zero, suc, ◌+◌, ◌≤◌, ◌<◌}
 use mathlib.Core.Path.{◌≡◌, refl, sym}
-use mathlib.Core.Bool.{Bool, true, false, not}
+use mathlib.Core.Bool.{Bool, true, false}
 use mathlib.Core.Logic.{⊎_elim, ◌↔◌}
 use native.Mathlib.Nat.{eq-or-lt_of_le, le_of_suc-le-suc}
 use native.Mathlib.Omega.{arith}
@@ -32,10 +32,10 @@ module _ (test : ℕ → Bool) where
   abbrev pub Below : ℕ → Type 0
   Below i = (k : ℕ) → k < i → test k ≡ true
 
-  pub stops : {n i : ℕ} {r : Bool} → i < n → r ≡ test i → not r ≡ true → false ≡ every n test
+  pub stops : {n i : ℕ} {r : Bool} → i < n → r ≡ test i → r ≡ false → false ≡ every n test
   stops {n} {i} l e t = sym (one_fails n i l (failed e t))
 
-  pub goes_on : {i : ℕ} {r : Bool} → Below i → r ≡ test i → not r ≡ false → Below (i + 1)
+  pub goes_on : {i : ℕ} {r : Bool} → Below i → r ≡ test i → r ≡ true → Below (i + 1)
   goes_on h e t = below_more _ _ h (passed e t)
 
   pub ends : {n i : ℕ} → Below i → n ≤ i → true ≡ every n test

@@ -104,6 +104,7 @@ fn free_at(yard: Yard, cells: &[u8], size: Size, x: usize, y: usize) -> bool
 }
 
 // Whether the box is free at (x, y), for any words.
+#[tactic(auto, using(crate::proofs::Squares::below_left, crate::proofs::Squares::below_above))]
 pub fn is_free(yard: Yard, cells: &[u8], size: Size, x: i32, y: i32) -> bool
     requires laid { CellsFit yard cells.now }
     requires sized { SizeFits size }

@@ -33,6 +33,7 @@ pub fn ranges_hold(yard: Yard) -> bool
 }
 
 // No cell byte is above 1.
+#[tactic(auto, using(crate::proofs::Fits::byte_fails))]
 pub fn cells_hold(cells: &[u8]) -> bool
     ensures cells { CellsHoldSays cells.now result }
 {

@@ -1,9 +1,7 @@
 use Prim.Native.Nat.{◌-◌}
-use mathlib.Core.Path.{◌≡◌, refl, sym, ◌∙◌}
-use borrow.Author.Rules.{rules}
+use mathlib.Core.Path.{◌≡◌}
 use lib.ListN.{length, drop}
 use Rattle.digest.specs.Fnv.{fnv}
-use Rattle.digest.proofs.Fnv.{one_more, no_more}
 use Rattle.digest.proofs.Digest.bytes.Given as goal
 
 abbrev pub invariant-loop-i : goal.invariant-loop-i

@@ -1,6 +1,5 @@
 -- `of_state` meets its contract: `word`, then continued over `words`, is one list of bytes.
 use mathlib.Core.Path.{sym}
-use borrow.Author.Rules.{rules}
 use Rattle.digest.proofs.Fnv.{continued}
 use Rattle.digest.proofs.Digest.of_state.Goals as goal
 
@@ -8,6 +7,6 @@ pub returns : goal.returns
 returns c =
     record {
       digested =
-    rw (c.words.ensures.continued, c.word.ensures.continued, c.new.ensures.started)
-    (sym (continued _ _ _));
+          rw (c.words.ensures.continued, c.word.ensures.continued, c.new.ensures.started)
+          (sym (continued _ _ _));
     }

@@ -7,8 +7,8 @@ pub returns : goal.returns
 returns c =
     record {
       continued =
-    let a = c.args in
-    four a.self.value (a.word % 256) (a.word / 256 % 256) (a.word / 256 / 256 % 256)
-    (a.word / 256 / 256 / 256 % 256) c.byte.ensures.continued c.byte-2.ensures.continued
-    c.byte-3.ensures.continued c.byte-4.ensures.continued;
+          let a = c.args in
+          four a.self.value (a.word % 256) (a.word / 256 % 256) (a.word / 256 / 256 % 256)
+          (a.word / 256 / 256 / 256 % 256) c.byte.ensures.continued c.byte-2.ensures.continued
+          c.byte-3.ensures.continued c.byte-4.ensures.continued;
     }

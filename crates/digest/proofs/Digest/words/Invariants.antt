@@ -1,10 +1,8 @@
 use Prim.Native.Nat.{◌-◌}
-use mathlib.Core.Path.{◌≡◌, refl, sym, ◌∙◌}
-use borrow.Author.Rules.{rules}
-use lib.ListN.{length, drop, drop_of_length-le}
+use mathlib.Core.Path.{◌≡◌}
+use lib.ListN.{length, drop}
 use Rattle.digest.specs.Fnv.{fnv}
 use Rattle.digest.specs.Words.{bytes_of_words}
-use Rattle.digest.proofs.Words.{one_more, bits_say}
 use Rattle.digest.proofs.Digest.words.Given as goal
 
 abbrev pub invariant-loop-i : goal.invariant-loop-i

@@ -10,10 +10,10 @@ unfolding in_range
 returns-then-within c =
     record {
       range =
-    let load = c.args.self in
-    let x = c.within.ensures.within ∙ ap within (got load.x (search rules)) in
-    let v = c.within-then-within.ensures.within ∙ ap within (got load.v (search rules)) in
-    rw (sym x ∙ c.if-within.true) v;
+          let load = c.args.self in
+          let x = c.within.ensures.within ∙ ap within (got load.x (search rules)) in
+          let v = c.within-then-within.ensures.within ∙ ap within (got load.v (search rules)) in
+          rw (sym x ∙ c.if-within.true) v;
     }
 
 pub returns-else-within : goal.returns-else-within
@@ -21,7 +21,7 @@ unfolding in_range
 returns-else-within c =
     record {
       range =
-    let load = c.args.self in
-    let x = c.within.ensures.within ∙ ap within (got load.x (search rules)) in
-    rw (sym x ∙ c.if-within.false) c.if-within.false;
+          let load = c.args.self in
+          let x = c.within.ensures.within ∙ ap within (got load.x (search rules)) in
+          rw (sym x ∙ c.if-within.false) c.if-within.false;
     }

@@ -7,14 +7,14 @@ pub returns-then-z : goal.returns-then-z
 returns-then-z c =
     record {
       within =
-    let e = to_z-of_z c.ranges.z in
-    rw e (not_too_low c.args.z (rw e at c.if-z.true));
+          let e = to_z-of_z c.ranges.z in
+          rw e (not_too_low c.args.z (rw e at c.if-z.true));
     }
 
 pub returns-else-z : goal.returns-else-z
 returns-else-z c =
     record {
       within =
-    let e = to_z-of_z c.ranges.z in
-    rw e (too_low c.args.z (rw e at c.if-z.false));
+          let e = to_z-of_z c.ranges.z in
+          rw e (too_low c.args.z (rw e at c.if-z.false));
     }

@@ -8,7 +8,7 @@ unfolding finite_force
 returns-then-not-is_finite c =
     record {
       holds =
-    rw (c.in-Spring.is, failed c.is_finite-in-Spring.ensures.finite c.if-not-is_finite.true);
+          rw (c.in-Spring.is, failed c.is_finite-in-Spring.ensures.finite c.if-not-is_finite.true);
     }
 
 pub returns-in-Pull : goal.returns-in-Pull
@@ -20,8 +20,8 @@ unfolding finite_force
 returns-else-not-is_finite c =
     record {
       holds =
-    rw (c.in-Spring.is, passed c.is_finite-in-Spring.ensures.finite c.if-not-is_finite.false)
-    c.is_finite-in-Spring-2.ensures.finite;
+          rw (c.in-Spring.is, passed c.is_finite-in-Spring.ensures.finite c.if-not-is_finite.false)
+          c.is_finite-in-Spring-2.ensures.finite;
     }
 
 pub returns-in-Drag : goal.returns-in-Drag

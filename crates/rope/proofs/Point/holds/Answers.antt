@@ -12,5 +12,5 @@ unfolding finite_point
 returns c =
     record {
       holds =
-    rw (passed c.is_finite.ensures.finite c.if-not-is_finite.false) c.is_finite-2.ensures.finite;
+          rw (passed c.is_finite.ensures.finite c.if-not-is_finite.false) c.is_finite-2.ensures.finite;
     }

@@ -1,9 +1,9 @@
 -- `step` meets its contract: a law for each way out of it. The loop's invariant: the counted forces
 -- are finite exactly where those from `i` on are, and their sum is the one so far with those added.
-use Prim.Native.Nat.{◌≤◌, ◌-◌}
+use Prim.Native.Nat.{◌≤◌}
 use mathlib.Core.Path.{◌≡◌, refl, sym, ap, ◌∙◌}
 use mathlib.Core.Bool.{true}
-use lib.ListN.{take, drop}
+use lib.ListN.{take}
 use Rattle.basis.specs.Order.{accepted}
 use Rattle.rope.specs.Forces.{sum_of, sum_from, finite_forces}
 use Rattle.rope.specs.Step.{finite_point, moved_by, moved_under}
@@ -22,9 +22,9 @@ returns-then-not-holds c =
     let few : c.args.count ≤ 8 = c.if-count-gt-MOST.false in
     record {
       stepped =
-    sym
-    (bad_point _ _ _ few
-    (failed c.holds.ensures.holds c.if-not-holds.true));
+          sym
+          (bad_point _ _ _ few
+          (failed c.holds.ensures.holds c.if-not-holds.true));
     }
 
 pub loop-i-init : goal.loop-i-init
@@ -36,12 +36,12 @@ returns-then-not-holds-2 c =
     let point_holds : finite_point c.args.self ≡ true = passed c.holds.ensures.holds c.if-not-holds.false in
     record {
       stepped =
-    let a = c.args in
-    sym
-    (bad_force _ _ _ few point_holds
-    (c.loop-i.invariant.1
-    ∙ next_fails a.t2 a.count c.loop-i.i (search rules) (search rules)
-    (failed c.holds-in-loop-i.ensures.holds c.if-not-holds-2.true)));
+          let a = c.args in
+          sym
+          (bad_force _ _ _ few point_holds
+          (c.loop-i.invariant.1
+          ∙ next_fails a.forces a.count c.loop-i.i (search rules) (search rules)
+          (failed c.holds-in-loop-i.ensures.holds c.if-not-holds-2.true)));
     }
 
 pub loop-i-preserved : goal.loop-i-preserved
@@ -49,11 +49,11 @@ loop-i-preserved c =
     let a = c.args in (
       search rules,
       c.loop-i.invariant.1
-          ∙ next_holds a.t2 a.count c.loop-i.i (search rules) (search rules)
+          ∙ next_holds a.forces a.count c.loop-i.i (search rules) (search rules)
           (passed c.holds-in-loop-i.ensures.holds c.if-not-holds-2.false),
       rw c.on-sum.ensures.force
           (c.loop-i.invariant.2
-          ∙ sum_next a.t2 a.count c.loop-i.i (search rules) a.self c.loop-i.sum
+          ∙ sum_next a.forces a.count c.loop-i.i (search rules) a.self c.loop-i.sum
           (search rules)),
     )
 
@@ -62,21 +62,21 @@ unfolding finite_forces sum_from
 returns-then-not-holds-3 c =
     let few : c.args.count ≤ 8 = c.if-count-gt-MOST.false in
     let point_holds : finite_point c.args.self ≡ true = passed c.holds.ensures.holds c.if-not-holds.false in
-    let forces_hold : finite_forces (take c.args.count c.args.t2) ≡ true = let a = c.args in
+    let forces_hold : finite_forces (take c.args.count c.args.forces) ≡ true = let a = c.args in
     c.loop-i.invariant.1
     ∙ ap finite_forces
-    (none_left a.t2 a.count c.loop-i.i (search rules) (search rules) (search rules)) in
-    let sum_is : c.loop-i.sum ≡ sum_of c.args.self (take c.args.count c.args.t2) = let a = c.args in
+    (none_left a.forces a.count c.loop-i.i (search rules) (search rules) (search rules)) in
+    let sum_is : c.loop-i.sum ≡ sum_of c.args.self (take c.args.count c.args.forces) = let a = c.args in
     sym
     (c.loop-i.invariant.2
     ∙ ap (sum_from _ _)
-    (none_left a.t2 a.count c.loop-i.i (search rules) (search rules) (search rules))) in
-    let result : c.moved-next.result ≡ moved_under c.args.self (take c.args.count c.args.t2) = c.moved-next.ensures.moved ∙ ap (moved_by _) sum_is in
+    (none_left a.forces a.count c.loop-i.i (search rules) (search rules) (search rules))) in
+    let result : c.moved-next.result ≡ moved_under c.args.self (take c.args.count c.args.forces) = c.moved-next.ensures.moved ∙ ap (moved_by _) sum_is in
     record {
       stepped =
-    sym
-    (bad_result _ _ _ few point_holds forces_hold
-    (failed (c.holds-2.ensures.holds ∙ ap finite_point result) c.if-not-holds-3.true));
+          sym
+          (bad_result _ _ _ few point_holds forces_hold
+          (failed (c.holds-2.ensures.holds ∙ ap finite_point result) c.if-not-holds-3.true));
     }
 
 pub returns : goal.returns
@@ -84,20 +84,20 @@ unfolding finite_forces sum_from
 returns c =
     let few : c.args.count ≤ 8 = c.if-count-gt-MOST.false in
     let point_holds : finite_point c.args.self ≡ true = passed c.holds.ensures.holds c.if-not-holds.false in
-    let forces_hold : finite_forces (take c.args.count c.args.t2) ≡ true = let a = c.args in
+    let forces_hold : finite_forces (take c.args.count c.args.forces) ≡ true = let a = c.args in
     c.loop-i.invariant.1
     ∙ ap finite_forces
-    (none_left a.t2 a.count c.loop-i.i (search rules) (search rules) (search rules)) in
-    let sum_is : c.loop-i.sum ≡ sum_of c.args.self (take c.args.count c.args.t2) = let a = c.args in
+    (none_left a.forces a.count c.loop-i.i (search rules) (search rules) (search rules)) in
+    let sum_is : c.loop-i.sum ≡ sum_of c.args.self (take c.args.count c.args.forces) = let a = c.args in
     sym
     (c.loop-i.invariant.2
     ∙ ap (sum_from _ _)
-    (none_left a.t2 a.count c.loop-i.i (search rules) (search rules) (search rules))) in
-    let result : c.moved-next.result ≡ moved_under c.args.self (take c.args.count c.args.t2) = c.moved-next.ensures.moved ∙ ap (moved_by _) sum_is in
+    (none_left a.forces a.count c.loop-i.i (search rules) (search rules) (search rules))) in
+    let result : c.moved-next.result ≡ moved_under c.args.self (take c.args.count c.args.forces) = c.moved-next.ensures.moved ∙ ap (moved_by _) sum_is in
     record {
       stepped =
-    ap accepted result
-    ∙ sym
-    (moves _ _ _ few point_holds forces_hold
-    (passed (c.holds-2.ensures.holds ∙ ap finite_point result) c.if-not-holds-3.false));
+          ap accepted result
+          ∙ sym
+          (moves _ _ _ few point_holds forces_hold
+          (passed (c.holds-2.ensures.holds ∙ ap finite_point result) c.if-not-holds-3.false));
     }

@@ -1,15 +1,7 @@
 use Prim.Native.Nat.{◌≤◌, ◌-◌}
-use mathlib.Core.Path.{◌≡◌, refl, sym, ap, ◌∙◌}
-use mathlib.Core.Bool.{true}
+use mathlib.Core.Path.{◌≡◌}
 use lib.ListN.{take, drop}
-use Rattle.basis.specs.Order.{accepted}
 use Rattle.rope.specs.Forces.{sum_of, sum_from, finite_forces}
-use Rattle.rope.specs.Step.{finite_point, moved_by, moved_under}
-use Rattle.basis.proofs.Tests.{passed, failed}
-use Rattle.rope.proofs.Counted.{none_left, sum_next, next_fails, next_holds}
-use Rattle.rope.proofs.Numbers.{zero_bits}
-use Rattle.rope.proofs.Steps.{too_many, bad_point, bad_force, bad_result, moves}
-use borrow.Author.Rules.{rules}
 use Rattle.rope.proofs.Point.step.Given as goal
 
 abbrev pub invariant-loop-i : goal.invariant-loop-i

@@ -29,17 +29,18 @@ new_speed-u-requires c =
     let place : ℤ → ℤ → Bool = free c.args.yard c.args.cells.now c.args.size in
     let lever : ℤ = lever_after c.args.held the.lever in
     let good : Good place the = good_of place the c.requires.sound in
-    let lever_fits : nat_abs lever ≤ 9 = from_zero 9 lever (lever_holds c.args.held the.lever c.requires.table good.lever) in
+    let lever_fits : nat_abs lever ≤ 9 =
+    from_zero 9 lever (lever_holds c.args.held the.lever c.requires.table good.lever) in
     let lever_is : read c.lever_after-lever.result ≡ lever = rw (
       got c.lever_after-lever.result c.lever_after-lever.type_inv,
       c.lever_after-lever.ensures.part,
       got the.lever (search rules),
     ) in
-    let position_is : let s = entry cPORT? in c.magnitude-position.result ≡ nat_abs lever = c.magnitude-position.ensures.size ∙ ap nat_abs lever_is in
+    let position_is : c.magnitude-position.result ≡ nat_abs lever =
+    c.magnitude-position.ensures.size ∙ ap nat_abs lever_is in
     record {
       sound =
-    let s = entry cPORT? in
-    rw (position_is, got the.u (search rules)) (lever_fits, good.u);
+          rw (position_is, got the.u (search rules)) (lever_fits, good.u);
     }
 
 pub new_speed-v-requires : goal.new_speed-v-requires
@@ -48,17 +49,18 @@ new_speed-v-requires c =
     let place : ℤ → ℤ → Bool = free c.args.yard c.args.cells.now c.args.size in
     let lever : ℤ = lever_after c.args.held the.lever in
     let good : Good place the = good_of place the c.requires.sound in
-    let lever_fits : nat_abs lever ≤ 9 = from_zero 9 lever (lever_holds c.args.held the.lever c.requires.table good.lever) in
+    let lever_fits : nat_abs lever ≤ 9 =
+    from_zero 9 lever (lever_holds c.args.held the.lever c.requires.table good.lever) in
     let lever_is : read c.lever_after-lever.result ≡ lever = rw (
       got c.lever_after-lever.result c.lever_after-lever.type_inv,
       c.lever_after-lever.ensures.part,
       got the.lever (search rules),
     ) in
-    let position_is : let s = entry cPORT? in c.magnitude-position.result ≡ nat_abs lever = c.magnitude-position.ensures.size ∙ ap nat_abs lever_is in
+    let position_is : c.magnitude-position.result ≡ nat_abs lever =
+    c.magnitude-position.ensures.size ∙ ap nat_abs lever_is in
     record {
       sound =
-    let s = entry cPORT? in
-    rw (position_is, got the.v (search rules)) (lever_fits, good.v);
+          rw (position_is, got the.v (search rules)) (lever_fits, good.v);
     }
 
 pub slide-along_x-requires : goal.slide-along_x-requires
@@ -73,18 +75,23 @@ slide-along_x-requires c =
       c.lever_after-lever.ensures.part,
       got the.lever (search rules),
     ) in
-    let position_is : let s = entry cPORT? in c.magnitude-position.result ≡ nat_abs lever = c.magnitude-position.ensures.size ∙ ap nat_abs lever_is in
-    let u_is : let s = entry cPORT? in read c.new_speed-u.result ≡ u = rw (
+    let position_is : c.magnitude-position.result ≡ nat_abs lever =
+    c.magnitude-position.ensures.size ∙ ap nat_abs lever_is in
+    let u_is : read c.new_speed-u.result ≡ u = rw (
       got c.new_speed-u.result c.new_speed-u.type_inv,
       c.new_speed-u.ensures.part,
       position_is,
       got the.u (search rules),
     ) in
-    let s = entry cPORT? in
     let slow = speed_within X (nat_abs lever) the.u good.u in
     let x = got the.x (search rules) in
     let y = got the.y (search rules) in
-    (c.requires.laid, (c.requires.sized, rw (u_is, x, y) (slow, good.here)))
+    record {
+      laid = c.requires.laid;
+      sized = c.requires.sized;
+      slow = rw u_is slow;
+      stands = rw (x, y) good.here;
+    }
 
 pub slide-along_y-requires : goal.slide-along_y-requires
 slide-along_y-requires c =
@@ -100,29 +107,35 @@ slide-along_y-requires c =
       c.lever_after-lever.ensures.part,
       got the.lever (search rules),
     ) in
-    let position_is : let s = entry cPORT? in c.magnitude-position.result ≡ nat_abs lever = c.magnitude-position.ensures.size ∙ ap nat_abs lever_is in
-    let u_is : let s = entry cPORT? in read c.new_speed-u.result ≡ u = rw (
+    let position_is : c.magnitude-position.result ≡ nat_abs lever =
+    c.magnitude-position.ensures.size ∙ ap nat_abs lever_is in
+    let u_is : read c.new_speed-u.result ≡ u = rw (
       got c.new_speed-u.result c.new_speed-u.type_inv,
       c.new_speed-u.ensures.part,
       position_is,
       got the.u (search rules),
     ) in
-    let v_is : let s = entry cPORT? in read c.new_speed-v.result ≡ v = rw (
+    let v_is : read c.new_speed-v.result ≡ v = rw (
       got c.new_speed-v.result c.new_speed-v.type_inv,
       c.new_speed-v.ensures.part,
       position_is,
       got the.v (search rules),
     ) in
-    let along_x_is : let s = entry cPORT? in c.slide-along_x.result ≡ along_x = let w = the in
+    let along_x_is : c.slide-along_x.result ≡ along_x = let w = the in
     c.slide-along_x.ensures.moved
     ∙ slides_alike _ X u_is (got w.x (search rules))
     (got w.y (search rules)) in
-    let new_x_is : let s = entry cPORT? in read c.slide-along_x.result.at ≡ along_x.at = rw (got c.slide-along_x.result.at (search rules), along_x_is) in
-    let s = entry cPORT? in
+    let new_x_is : read c.slide-along_x.result.at ≡ along_x.at =
+    rw (got c.slide-along_x.result.at (search rules), along_x_is) in
     let slow = speed_within Y (nat_abs lever) the.v good.v in
     let there = slide_x_free place u the.x the.y good.here in
     let y = got the.y (search rules) in
-    (c.requires.laid, (c.requires.sized, rw (v_is, new_x_is, y) (slow, there)))
+    record {
+      laid = c.requires.laid;
+      sized = c.requires.sized;
+      slow = rw v_is slow;
+      stands = rw (new_x_is, y) there;
+    }
 
 pub returns : goal.returns
 unfolding step
@@ -138,39 +151,41 @@ returns c =
       c.lever_after-lever.ensures.part,
       got the.lever (search rules),
     ) in
-    let position_is : let s = entry cPORT? in c.magnitude-position.result ≡ nat_abs lever = c.magnitude-position.ensures.size ∙ ap nat_abs lever_is in
-    let u_is : let s = entry cPORT? in read c.new_speed-u.result ≡ u = rw (
+    let position_is : c.magnitude-position.result ≡ nat_abs lever =
+    c.magnitude-position.ensures.size ∙ ap nat_abs lever_is in
+    let u_is : read c.new_speed-u.result ≡ u = rw (
       got c.new_speed-u.result c.new_speed-u.type_inv,
       c.new_speed-u.ensures.part,
       position_is,
       got the.u (search rules),
     ) in
-    let v_is : let s = entry cPORT? in read c.new_speed-v.result ≡ v = rw (
+    let v_is : read c.new_speed-v.result ≡ v = rw (
       got c.new_speed-v.result c.new_speed-v.type_inv,
       c.new_speed-v.ensures.part,
       position_is,
       got the.v (search rules),
     ) in
-    let along_x_is : let s = entry cPORT? in c.slide-along_x.result ≡ along_x = let w = the in
+    let along_x_is : c.slide-along_x.result ≡ along_x = let w = the in
     c.slide-along_x.ensures.moved
     ∙ slides_alike _ X u_is (got w.x (search rules))
     (got w.y (search rules)) in
-    let new_x_is : let s = entry cPORT? in read c.slide-along_x.result.at ≡ along_x.at = rw (got c.slide-along_x.result.at (search rules), along_x_is) in
-    let along_y_is : let s = entry cPORT? in c.slide-along_y.result ≡ slide place Y v along_x.at the.y = let w = the in
+    let new_x_is : read c.slide-along_x.result.at ≡ along_x.at =
+    rw (got c.slide-along_x.result.at (search rules), along_x_is) in
+    let along_y_is : c.slide-along_y.result ≡ slide place Y v along_x.at the.y = let w = the in
     c.slide-along_y.ensures.moved
     ∙ slides_alike _ Y v_is new_x_is
     (got w.y (search rules)) in
     record {
       stepped =
-    let x = c.slide-along_x.result in
-    let y = c.slide-along_y.result in
-    rw (
-      got x.at (search rules),
-      got y.at (search rules),
-      got x.speed (search rules),
-      got y.speed (search rules),
-      along_y_is,
-      along_x_is,
-      lever_is,
-    );
+          let x = c.slide-along_x.result in
+          let y = c.slide-along_y.result in
+          rw (
+            got x.at (search rules),
+            got y.at (search rules),
+            got x.speed (search rules),
+            got y.speed (search rules),
+            along_y_is,
+            along_x_is,
+            lever_is,
+          );
     }

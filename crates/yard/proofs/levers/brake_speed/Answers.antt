@@ -8,35 +8,27 @@ use Rattle.yard.specs.Levers.{brake_units, brake}
 use Rattle.yard.proofs.Signed.{small, abs_add, abs_sub}
 use Rattle.yard.proofs.levers.brake_speed.Goals as goal
 
-pub overflow_sub-result : goal.overflow_sub-result
-overflow_sub-result c =
-    let less_fits : SFits w32 (c.args.old -ℤ pos brake_units) = small _ (omega (arith, abs_sub c.args.old (pos brake_units))) in
-    rw (to_z-of_z c.ranges.old) less_fits
-
 pub returns-then-old-gt-BRAKE : goal.returns-then-old-gt-BRAKE
 unfolding brake
 returns-then-old-gt-BRAKE c =
-    let less_fits : SFits w32 (c.args.old -ℤ pos brake_units) = small _ (omega (arith, abs_sub c.args.old (pos brake_units))) in
+    let less_fits : SFits w32 (c.args.old -ℤ pos brake_units) =
+    small _ (omega (arith, abs_sub c.args.old (pos brake_units))) in
     record {
       braked =
-    let old = to_z-of_z c.ranges.old in
-    rw (old, to_z-of_z less_fits) (simp (rw old at c.if-old-gt-BRAKE.true));
+          let old = to_z-of_z c.ranges.old in
+          rw (old, to_z-of_z less_fits) (simp (rw old at c.if-old-gt-BRAKE.true));
     }
-
-pub overflow_add-result : goal.overflow_add-result
-overflow_add-result c =
-    let more_fits : SFits w32 (c.args.old +ℤ pos brake_units) = small _ (omega (arith, abs_add c.args.old (pos brake_units))) in
-    rw (to_z-of_z c.ranges.old) more_fits
 
 pub returns-then-old : goal.returns-then-old
 unfolding brake
 returns-then-old c =
-    let more_fits : SFits w32 (c.args.old +ℤ pos brake_units) = small _ (omega (arith, abs_add c.args.old (pos brake_units))) in
+    let more_fits : SFits w32 (c.args.old +ℤ pos brake_units) =
+    small _ (omega (arith, abs_add c.args.old (pos brake_units))) in
     record {
       braked =
-    let old = to_z-of_z c.ranges.old in
-    rw (old, to_z-of_z more_fits)
-    (simp (rw old at c.if-old-gt-BRAKE.false, rw old at c.if-old.true));
+          let old = to_z-of_z c.ranges.old in
+          rw (old, to_z-of_z more_fits)
+          (simp (rw old at c.if-old-gt-BRAKE.false, rw old at c.if-old.true));
     }
 
 pub returns : goal.returns
@@ -44,6 +36,6 @@ unfolding brake
 returns c =
     record {
       braked =
-    let old = to_z-of_z c.ranges.old in
-    simp (rw old at c.if-old-gt-BRAKE.false, rw old at c.if-old.false);
+          let old = to_z-of_z c.ranges.old in
+          simp (rw old at c.if-old-gt-BRAKE.false, rw old at c.if-old.false);
     }

@@ -9,36 +9,37 @@ use Rattle.yard.specs.Levers.{cut_speed}
 use Rattle.yard.proofs.Signed.{read, small, abs_add}
 use Rattle.yard.proofs.levers.pushed_speed.Goals as goal
 
-pub overflow_add-speed : goal.overflow_add-speed
-overflow_add-speed s =
-    let sum_fits : SFits w32 (s.args.old +ℤ s.args.push) = small _ (omega (arith, abs_add s.args.old s.args.push)) in
-    rw (to_z-of_z s.ranges.old, to_z-of_z s.ranges.push) sum_fits
-
 pub returns-then-speed-lt-LEAST : goal.returns-then-speed-lt-LEAST
 unfolding cut_speed
 returns-then-speed-lt-LEAST c =
-    let sum_fits : SFits w32 (c.args.old +ℤ c.args.push) = small _ (omega (arith, abs_add c.args.old c.args.push)) in
-    let sum_is : read (read c.args.old +ℤ read c.args.push) ≡ c.args.old +ℤ c.args.push = rw (to_z-of_z c.ranges.old, to_z-of_z c.ranges.push) (to_z-of_z sum_fits) in
+    let sum_fits : SFits w32 (c.args.old +ℤ c.args.push) =
+    small _ (omega (arith, abs_add c.args.old c.args.push)) in
+    let sum_is : read (read c.args.old +ℤ read c.args.push) ≡ c.args.old +ℤ c.args.push =
+    rw (to_z-of_z c.ranges.old, to_z-of_z c.ranges.push) (to_z-of_z sum_fits) in
     record { cut = simp (rw sum_is at c.if-speed-lt-LEAST.true) }
 
 pub returns-then-speed-gt-MOST : goal.returns-then-speed-gt-MOST
 unfolding cut_speed
 returns-then-speed-gt-MOST c =
-    let sum_fits : SFits w32 (c.args.old +ℤ c.args.push) = small _ (omega (arith, abs_add c.args.old c.args.push)) in
-    let sum_is : read (read c.args.old +ℤ read c.args.push) ≡ c.args.old +ℤ c.args.push = rw (to_z-of_z c.ranges.old, to_z-of_z c.ranges.push) (to_z-of_z sum_fits) in
+    let sum_fits : SFits w32 (c.args.old +ℤ c.args.push) =
+    small _ (omega (arith, abs_add c.args.old c.args.push)) in
+    let sum_is : read (read c.args.old +ℤ read c.args.push) ≡ c.args.old +ℤ c.args.push =
+    rw (to_z-of_z c.ranges.old, to_z-of_z c.ranges.push) (to_z-of_z sum_fits) in
     record {
       cut =
-    let e = sum_is in
-    simp (rw e at c.if-speed-lt-LEAST.false, rw e at c.if-speed-gt-MOST.true);
+          let e = sum_is in
+          simp (rw e at c.if-speed-lt-LEAST.false, rw e at c.if-speed-gt-MOST.true);
     }
 
 pub returns : goal.returns
 unfolding cut_speed
 returns c =
-    let sum_fits : SFits w32 (c.args.old +ℤ c.args.push) = small _ (omega (arith, abs_add c.args.old c.args.push)) in
-    let sum_is : read (read c.args.old +ℤ read c.args.push) ≡ c.args.old +ℤ c.args.push = rw (to_z-of_z c.ranges.old, to_z-of_z c.ranges.push) (to_z-of_z sum_fits) in
+    let sum_fits : SFits w32 (c.args.old +ℤ c.args.push) =
+    small _ (omega (arith, abs_add c.args.old c.args.push)) in
+    let sum_is : read (read c.args.old +ℤ read c.args.push) ≡ c.args.old +ℤ c.args.push =
+    rw (to_z-of_z c.ranges.old, to_z-of_z c.ranges.push) (to_z-of_z sum_fits) in
     record {
       cut =
-    let e = sum_is in
-    rw e (simp (rw e at c.if-speed-lt-LEAST.false, rw e at c.if-speed-gt-MOST.false));
+          let e = sum_is in
+          rw e (simp (rw e at c.if-speed-lt-LEAST.false, rw e at c.if-speed-gt-MOST.false));
     }

@@ -1,5 +1,4 @@
 -- `free_at` meets its contract: past an edge not free, within them as the search of the block says.
-use borrow.Author.Rules.{rules}
 use mathlib.Core.Path.{sym, subst}
 use native.Mathlib.Omega.{arith}
 use Rattle.yard.specs.Search.{Finds, block_of}
@@ -12,28 +11,28 @@ returns-then-x-w c = record { place = sym (past_right _ _ _ _ _ c.if-x-w.true) }
 pub returns-then-y-h : goal.returns-then-y-h
 returns-then-y-h c = record { place = sym (past_bottom _ _ _ _ _ c.if-y-h.true) }
 
-pub wall_in-requires : goal.wall_in-requires
-wall_in-requires c = rw c.block_of.ensures.covered (search rules)
-
 pub returns-in-Nothing : goal.returns-in-Nothing
 returns-in-Nothing c =
-    let finds : let a = c.args in Finds a.yard a.cells.now (block_of a.size a.x a.y) c.wall_in.result = let a = c.args in
+    let finds : let a = c.args in
+    Finds a.yard a.cells.now (block_of a.size a.x a.y) c.wall_in.result = let a = c.args in
     subst (λ block. Finds a.yard a.cells.now block c.wall_in.result)
     c.block_of.ensures.covered c.wall_in.ensures.met in
     record {
       place =
-    let met = rw c.in-Nothing.is at finds in
-    sym (none_met _ _ _ _ _ (omega arith) (omega arith) met);
+          let met = rw c.in-Nothing.is at finds in
+          sym (none_met _ _ _ _ _ (omega arith) (omega arith) met);
     }
 
 pub returns-in-Wall : goal.returns-in-Wall
 returns-in-Wall c =
-    let finds : let a = c.args in Finds a.yard a.cells.now (block_of a.size a.x a.y) c.wall_in.result = let a = c.args in
+    let finds : let a = c.args in
+    Finds a.yard a.cells.now (block_of a.size a.x a.y) c.wall_in.result = let a = c.args in
     subst (λ block. Finds a.yard a.cells.now block c.wall_in.result)
     c.block_of.ensures.covered c.wall_in.ensures.met in
     record {
       place =
-    let met = rw c.in-Wall.is at finds in
-    sym
-    (wall_met _ _ _ _ _ (omega arith) (omega arith) c.requires.sized _ _ met.inside met.there);
+          let met = rw c.in-Wall.is at finds in
+          sym
+          (wall_met _ _ _ _ _ (omega arith)
+          (omega arith) c.requires.sized _ _ met.inside met.there);
     }

@@ -18,10 +18,10 @@ returns-then-not-is_from_one-2 c =
     let h_is : c.is_from_one-2.result ≡ from_one c.args.yard.h 64 = c.is_from_one-2.ensures.range in
     record {
       ranges =
-    rw (
-      passed w_is c.if-not-is_from_one.false,
-      failed h_is c.if-not-is_from_one-2.true,
-    );
+          rw (
+            passed w_is c.if-not-is_from_one.false,
+            failed h_is c.if-not-is_from_one-2.true,
+          );
     }
 
 pub returns : goal.returns
@@ -31,9 +31,9 @@ returns c =
     let h_is : c.is_from_one-2.result ≡ from_one c.args.yard.h 64 = c.is_from_one-2.ensures.range in
     record {
       ranges =
-    rw (
-      passed w_is c.if-not-is_from_one.false,
-      passed h_is c.if-not-is_from_one-2.false,
-      c.is_from_one-3.ensures.range,
-    );
+          rw (
+            passed w_is c.if-not-is_from_one.false,
+            passed h_is c.if-not-is_from_one-2.false,
+            c.is_from_one-3.ensures.range,
+          );
     }

@@ -1,24 +1,15 @@
 -- `sizes_hold` meets its contract. Invariant: every size passed holds.
-use Prim.Native.Nat.{◌-◌, ◌≤◌}
-use borrow.Author.Count.{below_none}
 use borrow.Author.Rules.{rules}
-use Rattle.yard.specs.Rule9.{size_holds, sizes_hold}
-use Rattle.yard.proofs.Every.{Below, stops, goes_on, ends}
+use Rattle.yard.specs.Rule9.{sizes_hold}
+use Rattle.yard.proofs.Every.{stops, ends}
 use Rattle.yard.proofs.rule9.sizes_hold.Goals as goal
-
-pub loop-i-init : goal.loop-i-init
-loop-i-init c = (search rules, below_none _)
 
 pub returns-then-not-size_holds : goal.returns-then-not-size_holds
 unfolding sizes_hold
-returns-then-not-size_holds c = record { sizes = stops _ (search rules) c.size_holds.ensures.size c.if-not-size_holds.true }
-
-pub loop-i-preserved : goal.loop-i-preserved
-loop-i-preserved c =
-    (
-      search rules,
-      goes_on _ c.loop-i.invariant.1 c.size_holds.ensures.size c.if-not-size_holds.false,
-    )
+returns-then-not-size_holds c =
+    record {
+      sizes = stops _ (search rules) c.size_holds.ensures.size c.if-not-size_holds.true;
+    }
 
 pub returns : goal.returns
 unfolding sizes_hold

@@ -1,8 +1,6 @@
 use Prim.Native.Nat.{◌-◌, ◌≤◌}
-use borrow.Author.Count.{below_none}
-use borrow.Author.Rules.{rules}
-use Rattle.yard.specs.Rule9.{size_holds, sizes_hold}
-use Rattle.yard.proofs.Every.{Below, stops, goes_on, ends}
+use Rattle.yard.specs.Rule9.{size_holds}
+use Rattle.yard.proofs.Every.{Below}
 use Rattle.yard.proofs.rule9.sizes_hold.Given as goal
 
 abbrev pub invariant-loop-i : goal.invariant-loop-i

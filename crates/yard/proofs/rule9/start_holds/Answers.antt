@@ -1,26 +1,21 @@
 -- `start_holds` meets its contract.
-use borrow.Author.Rules.{rules}
 use Rattle.yard.specs.Rule9.{start_holds}
 use Rattle.yard.proofs.Signed.{got}
 use Rattle.yard.proofs.rule9.start_holds.Goals as goal
-
-pub is_free-requires : goal.is_free-requires
-is_free-requires c =
- record { laid = c.requires.laid; sized = rw c.at-size.ensures.size c.requires.sized }
 
 pub returns : goal.returns
 unfolding start_holds
 returns c =
     record {
       start =
-    let x = c.word_of-x in
-    let y = c.word_of-y in
-    rw (
-      c.is_free.ensures.place,
-      c.at-size.ensures.size,
-      got x.result x.type_inv,
-      got y.result y.type_inv,
-      x.ensures,
-      y.ensures,
-    );
+          let x = c.word_of-x in
+          let y = c.word_of-y in
+          rw (
+            c.is_free.ensures.place,
+            c.at-size.ensures.size,
+            got x.result x.type_inv,
+            got y.result y.type_inv,
+            x.ensures.read,
+            y.ensures.read,
+          );
     }

@@ -1,9 +1,6 @@
 use Prim.Native.Nat.{◌-◌, ◌≤◌}
-use borrow.Author.Count.{below_none}
-use borrow.Author.Rules.{rules}
-use Rattle.yard.specs.Rule9.{start_holds, starts_hold}
-use Rattle.yard.proofs.Every.{Below, stops, goes_on, ends}
-use Rattle.yard.proofs.Fits.{sizes_fit}
+use Rattle.yard.specs.Rule9.{start_holds}
+use Rattle.yard.proofs.Every.{Below}
 use Rattle.yard.proofs.rule9.starts_hold.Given as goal
 
 abbrev pub invariant-loop-i : goal.invariant-loop-i

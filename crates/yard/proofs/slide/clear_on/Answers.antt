@@ -1,5 +1,4 @@
 -- `clear_on` meets its contract, on either axis.
-use borrow.Author.Rules.{rules}
 use mir.Facts.{to_z-of_z}
 use Rattle.yard.specs.Slide.{clear_on}
 use Rattle.yard.proofs.Signed.{got}
@@ -10,17 +9,17 @@ unfolding clear_on
 returns-in-X c =
     record {
       on =
-    let f = c.ranges in
-    let place = c.toward in
-    rw (
-      c.is_free.ensures.place,
-      got place.result place.type_inv,
-      place.ensures,
-      to_z-of_z f.speed,
-      to_z-of_z f.x,
-      to_z-of_z f.y,
-      c.in-X.is,
-    );
+          let f = c.ranges in
+          let place = c.toward in
+          rw (
+            c.is_free.ensures.place,
+            got place.result place.type_inv,
+            place.ensures.place,
+            to_z-of_z f.speed,
+            to_z-of_z f.x,
+            to_z-of_z f.y,
+            c.in-X.is,
+          );
     }
 
 pub returns-in-Y : goal.returns-in-Y
@@ -28,15 +27,15 @@ unfolding clear_on
 returns-in-Y c =
     record {
       on =
-    let f = c.ranges in
-    let place = c.toward-in-Y in
-    rw (
-      c.is_free-in-Y.ensures.place,
-      got place.result place.type_inv,
-      place.ensures,
-      to_z-of_z f.speed,
-      to_z-of_z f.x,
-      to_z-of_z f.y,
-      c.in-Y.is,
-    );
+          let f = c.ranges in
+          let place = c.toward-in-Y in
+          rw (
+            c.is_free-in-Y.ensures.place,
+            got place.result place.type_inv,
+            place.ensures.place,
+            to_z-of_z f.speed,
+            to_z-of_z f.x,
+            to_z-of_z f.y,
+            c.in-Y.is,
+          );
     }

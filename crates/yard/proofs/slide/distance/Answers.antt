@@ -3,11 +3,8 @@ use borrow.Author.Rules.{rules}
 use Prim.Native.Nat.{◌+◌, ◌-◌, ◌≤◌}
 use mathlib.Core.Path.{◌≡◌, sym, ◌∙◌}
 use native.Mathlib.Omega.{arith}
-use mir.Syntax.{w32}
-use mir.Val.{to_z}
 use mir.Facts.{to_z-of_z}
-use Rattle.yard.specs.Free.{free}
-use Rattle.yard.specs.Slide.{clear_on, walk, distance}
+use Rattle.yard.specs.Slide.{distance}
 use Rattle.yard.proofs.Cases.{passed, failed}
 use Rattle.yard.proofs.Squares.{near}
 use Rattle.yard.proofs.Walk.{walk_on, walk_stop, walk_end}
@@ -19,32 +16,27 @@ loop-k-init c =
     let all : c.magnitude-most.result - 0 ≡ c.magnitude-most.result = omega arith in
     (search rules, rw (all, c.magnitude-most.ensures.size))
 
-pub overflow_add-k : goal.overflow_add-k
-overflow_add-k c =
-    let most_small : c.magnitude-most.result ≤ 200 = rw (c.magnitude-most.ensures.size, to_z-of_z c.ranges.speed) c.requires.slow in
-    omega (arith, most_small)
-
 pub clear_on-requires : goal.clear_on-requires
 clear_on-requires c =
-    let most_small : c.magnitude-most.result ≤ 200 = rw (c.magnitude-most.ensures.size, to_z-of_z c.ranges.speed) c.requires.slow in
+    let most_small : c.magnitude-most.result ≤ 200 =
+    rw (c.magnitude-most.ensures.size, to_z-of_z c.ranges.speed) c.requires.slow in
     let n = near _ _ _ _ _ c.requires.laid c.requires.stands in
     let few : c.loop-k.k + 1 ≤ 200 = omega (arith, most_small) in
- record { laid = c.requires.laid; sized = c.requires.sized; near = rw (to_z-of_z c.ranges.x, to_z-of_z c.ranges.y) (n.0, n.1, few) }
+    record {
+      laid = c.requires.laid;
+      sized = c.requires.sized;
+      near = rw (to_z-of_z c.ranges.x, to_z-of_z c.ranges.y) (n.0, n.1, few);
+    }
 
 pub returns-then-not-clear_on : goal.returns-then-not-clear_on
 returns-then-not-clear_on c =
     record {
       units =
-    let f = c.ranges in
-    let blocked = failed c.clear_on.ensures.on c.if-not-clear_on.true in
-    rw (to_z-of_z f.speed, to_z-of_z f.x, to_z-of_z f.y) at
-    (sym (c.loop-k.invariant.1 ∙ walk_stop _ _ _ c.loop-k-test.true blocked));
+          let f = c.ranges in
+          let blocked = failed c.clear_on.ensures.on c.if-not-clear_on.true in
+          rw (to_z-of_z f.speed, to_z-of_z f.x, to_z-of_z f.y) at
+          (sym (c.loop-k.invariant.1 ∙ walk_stop _ _ _ c.loop-k-test.true blocked));
     }
-
-pub overflow_step-k : goal.overflow_step-k
-overflow_step-k c =
-    let most_small : c.magnitude-most.result ≤ 200 = rw (c.magnitude-most.ensures.size, to_z-of_z c.ranges.speed) c.requires.slow in
-    omega (arith, most_small)
 
 pub loop-k-preserved : goal.loop-k-preserved
 loop-k-preserved c =
@@ -55,8 +47,8 @@ pub returns : goal.returns
 returns c =
     record {
       units =
-    let f = c.ranges in
-    let last : c.loop-k.k ≡ c.magnitude-most.result = omega arith in
-    rw (to_z-of_z f.speed, to_z-of_z f.x, to_z-of_z f.y) at
-    (sym (c.loop-k.invariant.1 ∙ walk_end _ _ _ c.loop-k-test.false ∙ last));
+          let f = c.ranges in
+          let last : c.loop-k.k ≡ c.magnitude-most.result = omega arith in
+          rw (to_z-of_z f.speed, to_z-of_z f.x, to_z-of_z f.y) at
+          (sym (c.loop-k.invariant.1 ∙ walk_end _ _ _ c.loop-k-test.false ∙ last));
     }

@@ -1,5 +1,4 @@
 -- `slide` meets its contract: each call gives its part of the definition.
-use borrow.Author.Rules.{rules}
 use borrow.Author.Tests.{lt-ltb, le-ltb}
 use Prim.Native.Nat.{ℕ}
 use mathlib.Core.Path.{◌≡◌}
@@ -26,11 +25,11 @@ toward-at-requires c =
     rw (got c.pick.result c.pick.type_inv, c.pick.ensures.along, to_z-of_z f.x, to_z-of_z f.y) in
     record {
       near =
-    let a = c.args in
-    let n = near _ _ _ _ _ c.requires.laid c.requires.stands in
-    let most = distance_most place a.axis a.speed a.x a.y in
-    rw (from_is, units_is)
-    (on_abs a.axis a.x a.y n.0 n.1, omega arith);
+          let a = c.args in
+          let n = near _ _ _ _ _ c.requires.laid c.requires.stands in
+          let most = distance_most place a.axis a.speed a.x a.y in
+          rw (from_is, units_is)
+          (on_abs a.axis a.x a.y n.0 n.1, omega arith);
     }
 
 pub returns-then-units-magnitude : goal.returns-then-units-magnitude
@@ -50,14 +49,15 @@ returns-then-units-magnitude c =
       from_is,
       units_is,
     ) in
-    let most_is : c.magnitude.result ≡ nat_abs c.args.speed = rw (c.magnitude.ensures.size, to_z-of_z c.ranges.speed) in
+    let most_is : c.magnitude.result ≡ nat_abs c.args.speed =
+    rw (c.magnitude.ensures.size, to_z-of_z c.ranges.speed) in
     record {
       moved =
-    let fewer = lt-ltb _ _ c.if-units-magnitude.true in
-    rw (
-      at_is,
-      rw (units_is, most_is) at fewer,
-    );
+          let fewer = lt-ltb _ _ c.if-units-magnitude.true in
+          rw (
+            at_is,
+            rw (units_is, most_is) at fewer,
+          );
     }
 
 pub returns : goal.returns
@@ -77,13 +77,14 @@ returns c =
       from_is,
       units_is,
     ) in
-    let most_is : c.magnitude.result ≡ nat_abs c.args.speed = rw (c.magnitude.ensures.size, to_z-of_z c.ranges.speed) in
+    let most_is : c.magnitude.result ≡ nat_abs c.args.speed =
+    rw (c.magnitude.ensures.size, to_z-of_z c.ranges.speed) in
     record {
       moved =
-    let all = le-ltb _ _ c.if-units-magnitude.false in
-    rw (
-      at_is,
-      to_z-of_z c.ranges.speed,
-      rw (units_is, most_is) at all,
-    );
+          let all = le-ltb _ _ c.if-units-magnitude.false in
+          rw (
+            at_is,
+            to_z-of_z c.ranges.speed,
+            rw (units_is, most_is) at all,
+          );
     }

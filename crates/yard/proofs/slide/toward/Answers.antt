@@ -10,34 +10,22 @@ use Rattle.yard.proofs.Signed.{read, small}
 use Rattle.yard.proofs.Walk.{toward_less, toward_more, toward_abs}
 use Rattle.yard.proofs.slide.toward.Goals as goal
 
-pub overflow_sub-result : goal.overflow_sub-result
-overflow_sub-result c =
-    let place : ℤ = toward c.args.speed c.args.from c.args.units in
-    let place_fits : SFits w32 place = small _ (omega (arith, toward_abs c.args.speed c.args.from c.args.units)) in
-    let less : read c.args.from -ℤ to_z w32 c.args.units ≡ place = rw (to_z-of_z c.ranges.from, to_z_pos w32 {n = c.args.units} (omega arith))
-    (toward_less _ _ _ (rw (to_z-of_z c.ranges.speed) at c.if-speed-lt0.true)) in
-    rw less place_fits
-
 pub returns-then-speed-lt0 : goal.returns-then-speed-lt0
 returns-then-speed-lt0 c =
     let place : ℤ = toward c.args.speed c.args.from c.args.units in
-    let place_fits : SFits w32 place = small _ (omega (arith, toward_abs c.args.speed c.args.from c.args.units)) in
-    let less : read c.args.from -ℤ to_z w32 c.args.units ≡ place = rw (to_z-of_z c.ranges.from, to_z_pos w32 {n = c.args.units} (omega arith))
+    let place_fits : SFits w32 place =
+    small _ (omega (arith, toward_abs c.args.speed c.args.from c.args.units)) in
+    let less : read c.args.from -ℤ to_z w32 c.args.units ≡ place =
+    rw (to_z-of_z c.ranges.from, to_z_pos w32 {n = c.args.units} (omega arith))
     (toward_less _ _ _ (rw (to_z-of_z c.ranges.speed) at c.if-speed-lt0.true)) in
     record { place = rw less (to_z-of_z place_fits) }
-
-pub overflow_add-result : goal.overflow_add-result
-overflow_add-result c =
-    let place : ℤ = toward c.args.speed c.args.from c.args.units in
-    let place_fits : SFits w32 place = small _ (omega (arith, toward_abs c.args.speed c.args.from c.args.units)) in
-    let more : read c.args.from +ℤ to_z w32 c.args.units ≡ place = rw (to_z-of_z c.ranges.from, to_z_pos w32 {n = c.args.units} (omega arith))
-    (toward_more _ _ _ (rw (to_z-of_z c.ranges.speed) at c.if-speed-lt0.false)) in
-    rw more place_fits
 
 pub returns : goal.returns
 returns c =
     let place : ℤ = toward c.args.speed c.args.from c.args.units in
-    let place_fits : SFits w32 place = small _ (omega (arith, toward_abs c.args.speed c.args.from c.args.units)) in
-    let more : read c.args.from +ℤ to_z w32 c.args.units ≡ place = rw (to_z-of_z c.ranges.from, to_z_pos w32 {n = c.args.units} (omega arith))
+    let place_fits : SFits w32 place =
+    small _ (omega (arith, toward_abs c.args.speed c.args.from c.args.units)) in
+    let more : read c.args.from +ℤ to_z w32 c.args.units ≡ place =
+    rw (to_z-of_z c.ranges.from, to_z_pos w32 {n = c.args.units} (omega arith))
     (toward_more _ _ _ (rw (to_z-of_z c.ranges.speed) at c.if-speed-lt0.false)) in
     record { place = rw more (to_z-of_z place_fits) }

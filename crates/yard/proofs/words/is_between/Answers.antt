@@ -8,9 +8,9 @@ unfolding between
 returns-then-low-z c =
     record {
       tested =
-    let f = c.ranges in
-    let low = rw (to_z-of_z f.low, to_z-of_z f.z) at c.if-low-z.true in
-    simp (to_z-of_z f.z, to_z-of_z f.high, low);
+          let f = c.ranges in
+          let low = rw (to_z-of_z f.low, to_z-of_z f.z) at c.if-low-z.true in
+          simp (to_z-of_z f.z, to_z-of_z f.high, low);
     }
 
 pub returns-else-low-z : goal.returns-else-low-z
@@ -18,7 +18,7 @@ unfolding between
 returns-else-low-z c =
     record {
       tested =
-    let f = c.ranges in
-    let low = rw (to_z-of_z f.low, to_z-of_z f.z) at c.if-low-z.false in
-    simp (to_z-of_z f.z, to_z-of_z f.low, low);
+          let f = c.ranges in
+          let low = rw (to_z-of_z f.low, to_z-of_z f.z) at c.if-low-z.false in
+          simp (to_z-of_z f.z, to_z-of_z f.low, low);
     }

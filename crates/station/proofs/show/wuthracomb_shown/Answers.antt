@@ -1,0 +1,71 @@
+-- `wuthracomb_shown` meets its contract.
+use mathlib.Core.Bool.{true, ◌&&◌}
+use mathlib.Core.List.{[], ◌∷◌}
+use mathlib.Core.Path.{◌≡◌, sym, ap, ◌∙◌}
+use native.Mathlib.Omega.{arith}
+use lib.Dec.{eqb}
+use lib.ListN.{length}
+use borrow.Author.Rules.{rules}
+use Rattle.session.specs.Calls.{shown_order}
+use Rattle.shown.specs.Answer.{shown_answer}
+use Rattle.yard.proofs.Cases.{passed, failed}
+use Rattle.station.specs.Face.{shown_face}
+use Rattle.station.specs.Words.{words_fit}
+use Rattle.station.proofs.Sessions.{fit}
+use Rattle.station.proofs.Showing.{asked_long, asked_fits}
+use Rattle.station.proofs.Showing.{shows_unasked, shows_refused, shows_given}
+use Rattle.station.proofs.Stores.{stores}
+use Rattle.station.proofs.show.wuthracomb_shown.Goals as goal
+
+pub returns-then-not-may_show : goal.returns-then-not-may_show
+unfolding shown_face shown_order
+returns-then-not-may_show c =
+    record {
+      shown =
+          rw c.wide.ensures.same
+          (shows_unasked _ _ _ _ _ _
+          (failed c.may_show.ensures.may c.if-not-may_show.true));
+    }
+
+pub session_of-requires : goal.session_of-requires
+session_of-requires c =
+    let asked : (eqb (length c.args.out.now) 2 && words_fit c.args.session.now) ≡ true = passed c.may_show.ensures.may c.if-not-may_show.false in
+    record { fit = fit _ (asked_fits 2 c.args.out.now _ asked) }
+
+pub returns-in-Refused : goal.returns-in-Refused
+unfolding shown_face
+returns-in-Refused c =
+    let asked : (eqb (length c.args.out.now) 2 && words_fit c.args.session.now) ≡ true = passed c.may_show.ensures.may c.if-not-may_show.false in
+    record {
+      shown =
+          rw c.wide-in-Refused.ensures.same
+          (shows_refused _ _ _ _ _ asked
+          (sym (rw c.session_of.ensures.session at c.shown.ensures.shown)
+          ∙ ap shown_answer c.in-Refused.is));
+    }
+
+pub returns-in-At : goal.returns-in-At
+unfolding shown_face
+returns-in-At c =
+    let asked : (eqb (length c.args.out.now) 2 && words_fit c.args.session.now) ≡ true = passed c.may_show.ensures.may c.if-not-may_show.false in
+    let long : length c.args.out.now ≡ 2 = asked_long _ c.args.out.now c.args.session.now asked in
+    record {
+      shown =
+          let place = c.in-At.place in
+          shows_given _ _ _ _ _ asked
+          (sym (rw c.session_of.ensures.session at c.shown.ensures.shown)
+          ∙ ap shown_answer c.in-At.is)
+          (stores c.args.out.now (place.x ∷ place.y ∷ []) long);
+    }
+
+pub bounds-out-0 : goal.bounds-out-0
+bounds-out-0 c =
+    let asked : (eqb (length c.args.out.now) 2 && words_fit c.args.session.now) ≡ true = passed c.may_show.ensures.may c.if-not-may_show.false in
+    let long : length c.args.out.now ≡ 2 = asked_long _ c.args.out.now c.args.session.now asked in
+    omega (arith, long)
+
+pub bounds-out-1 : goal.bounds-out-1
+bounds-out-1 c =
+    let asked : (eqb (length c.args.out.now) 2 && words_fit c.args.session.now) ≡ true = passed c.may_show.ensures.may c.if-not-may_show.false in
+    let long : length c.args.out.now ≡ 2 = asked_long _ c.args.out.now c.args.session.now asked in
+    search (rules, long)
