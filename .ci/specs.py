@@ -1,9 +1,9 @@
-"""Reads the tree as a reader of the statements does: the definitions of specs/, the structs and enums of src/, the heads
-of the public entries, and what each of them names.
+"""Reads the tree as a reader of the statements does: the definitions of specs/, the structs and enums of src/, the
+heads of the public entries, and what each of them names.
 
 A public entry is a function that its crate's lib.rt gives out and that has no `requires`. A static library's crate says
-nothing of its own: .ci/contracts holds its exports to the entries that they call. A crate with a main.rt is a program's, as is one on which programs' crates stand and no others: its entry
-is the function `program`, if it has one.
+nothing of its own: .ci/contracts holds its exports to the entries that they call. A crate with a main.rt is a
+program's, as is one on which programs' crates stand and no others: its entry is the function `program`, if it has one.
 """
 import os
 import re
