@@ -14,7 +14,9 @@ use Rattle.load.proofs.Steps.{bad_state, bad_stiffness, bad_speed, bad_offset, m
 use Rattle.load.proofs.Load.step.Goals as goal
 
 pub returns-then-not-in_range : goal.returns-then-not-in_range
-returns-then-not-in_range c = record { stepped = sym (bad_state _ _ (failed c.in_range.ensures.range c.if-not-in_range.true)) }
+returns-then-not-in_range c =
+    let outside = failed c.in_range.ensures.range c.if-not-in_range.true in
+    record { stepped = sym (bad_state _ _ outside) }
 
 pub returns-then-stiffness-lt1 : goal.returns-then-stiffness-lt1
 returns-then-stiffness-lt1 c =
