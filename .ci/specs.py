@@ -1,9 +1,9 @@
-"""Reads the tree as a reader of the statements does: the definitions of specs/, the structs and enums of src/, the heads
-of the public entries, and what each of them names.
+"""Reads the tree as a reader of the statements does: the definitions of specs/, the structs and enums of src/, the
+heads of the public entries, and what each of them names.
 
-A public entry is a function that its crate's lib.rt gives out and that has no `requires`; of a crate with C functions,
-each of those. A crate with a main.rt is a program's, as is one on which programs' crates stand and no others: its entry
-is the function `program`, if it has one.
+A public entry is a function that its crate's lib.rt gives out and that has no `requires`. A static library's crate says
+nothing of its own: .ci/contracts holds its exports to the entries that they call. A crate with a main.rt is a
+program's, as is one on which programs' crates stand and no others: its entry is the function `program`, if it has one.
 """
 import os
 import re
@@ -12,7 +12,7 @@ import textwrap
 WORD = re.compile(r"[^\s(){},;:.∷→≡×λ]+")
 START = re.compile(r"(?:abbrev pub|unfoldable pub|pub record|pub data|pub(?! mod))\s+([^\s:({]+)")
 PROGRAM = re.compile(r"^fn program\(.*?\n\{\n", re.S | re.M)
-HEAD = re.compile(r"^( *)pub (extern \"C\" )?fn (\w+)(.*?)\n\1\{\n", re.S | re.M)
+HEAD = re.compile(r"^( *)pub fn (\w+)(.*?)\n\1\{\n", re.S | re.M)
 USE = re.compile(r"^(pub )?use ((?:\w+::)+)(?:(\w+)|\{([^}]*)\});", re.M)
 SPECS = r"^(?:ghost )?use Rattle\.(\w+)\.specs\."
 DEFINITION, TYPE, ENTRY = "definition", "type", "entry"
@@ -89,17 +89,17 @@ def uses(text, form):
             yield from (place + name for name in [name] + re.findall(r"\w+", names) if name)
 
 
-def entries(crate, path, lib, foreign):
+def entries(crate, path, lib):
     text = read(path)
     given = set(re.findall(r"^pub (?:struct|enum) (\w+)", lib, re.M))
     given |= {name.split("::")[-1] for name in uses(lib, "pub ")}
     for head in HEAD.finditer(text):
         owner = re.findall(r"^impl (\w+)", text[:head.start()], re.M)[-1] if head[1] else ""
-        out = owner in given if owner else head[3] in given or path.endswith("/lib.rt")
-        if not out or foreign and not head[2] or re.search(r"^\s*requires ", head[0], re.M):
+        out = owner in given if owner else head[2] in given or path.endswith("/lib.rt")
+        if not out or re.search(r"^\s*requires ", head[0], re.M):
             continue
         first = text.count("\n", 0, head.start())
-        name = f"{owner}::{head[3]}" if owner else head[3]
+        name = f"{owner}::{head[2]}" if owner else head[2]
         yield Item(ENTRY, crate, path, name, text.split("\n"), first, first + head[0].count("\n") - 1)
 
 
@@ -145,10 +145,9 @@ class Tree:
         source = files(f"crates/{crate}/src", ".rt", "lib.rt", r"^(?:pub )?mod (\w+);")
         specs = files(f"crates/{crate}/specs", ".antt", "Lib.antt", r"^pub mod (\w+)")
         lib = "" if self.programs(crate) else read(f"crates/{crate}/src/lib.rt")
-        foreign = any("pub extern " in read(path) for path in source)
         found = [item for path in source for item in types(crate, path)] if lib else []
         found += [item for path in specs for item in definitions(crate, path)]
-        found += [item for path in source for item in entries(crate, path, lib, foreign)] if lib else []
+        found += [item for path in source for item in entries(crate, path, lib)] if lib else []
         return found + list(program(crate, f"crates/{crate}/src/main.rt"))
 
     def scope(self, item):

@@ -4,10 +4,10 @@
 # build CRATE: its program is there, proved, and just as rt built it. What rt builds is known by its
 # hash; a program that is not that is removed, with the mark by which rt would pass it over.
 build() {
-    name=$1 program=target/bin/$1 hash=target/bin/$1.sha256
+    name=$1 program=crates/$1/out/$1 hash=crates/$1/out/$1.sha256
     lock
     if ! fits; then
-        rm -rf "$program" "$hash" "target/stamp/$name" ||
+        rm -rf "$program" "$hash" "$program.stamp" ||
             stop "a damaged program can't be removed: $home/$program"
     fi
     prove
@@ -32,12 +32,16 @@ lock() {
     await flock 9 || stop "the lock can't be had: $home/target/lock: $(cause < "$scratch/said")"
 }
 
-# prove: rt proves and builds what is stale, and meanwhile it is said which crate is being proved.
+# prove: rt proves and builds what is stale, and runs the program once on no input; meanwhile it is
+# said which crate is being proved.
 prove() {
     begin_watch
-    await rt check "$name" 3< /dev/null > "$scratch/rt"
+    # shellcheck disable=SC2016
+    await sh -c 'cd "crates/$1" && exec rt run' sh "$name" 3< /dev/null > "$scratch/rt"
     ended=$?
     end_watch
+    [ "$ended" -eq 0 ] || ! grep -q '^rt: running ' "$scratch/said" ||
+        stop "the program is proved, and $(how "$ended") when rt ran it"
     [ "$ended" -le 128 ] || stop "rt $(how "$ended"); what is proved stays proved"
     [ "$ended" -eq 0 ] || stop "the program is not proved: $(first_error)"
     ! any_begun || say "proved and built in $(($(date +%s) - began)) s"

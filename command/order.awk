@@ -1,5 +1,5 @@
 # The crate `name` of crates.txt and those that it stands on, in the order in which rt proves them:
-# a crate's level is one more than the highest of those that it stands on.
+# each after those that its line names, and what these stand on, as they come there.
 
 { sub(/#.*/, "") }
 
@@ -11,18 +11,11 @@
 }
 
 function visit(crate,    below, n, k) {
-    if (crate in level || !(crate in stands_on)) return
-    level[crate] = 0
+    if (crate in seen || !(crate in stands_on)) return
+    seen[crate]
     n = split(stands_on[crate], below)
-    for (k = 1; k <= n; k++) {
-        visit(below[k])
-        if (below[k] in level && level[below[k]] >= level[crate]) level[crate] = level[below[k]] + 1
-    }
-    found[++count] = crate
+    for (k = 1; k <= n; k++) visit(below[k])
+    print crate
 }
 
-END {
-    visit(name)
-    for (l = 0; l < count; l++)
-        for (k = 1; k <= count; k++) if (level[found[k]] == l) print found[k]
-}
+END { visit(name) }

@@ -1,11 +1,11 @@
-# Says which crate rt is proving, while it does. A part of wuthracomb. rt writes target/log/NAME.say
-# when it begins to prove a crate, and `proved` or `built` to target/log/NAME.res when it has.
+# Says which crate rt is proving, while it does. A part of wuthracomb. rt proves one crate after the
+# other; when it begins with one, it says so on standard error, which goes to `$scratch/said`.
 
 # begin_watch: from here on `watch` runs beside this run.
 begin_watch() {
     crates=$(in_order "$name")
     count=$(printf '%s\n' "$crates" | wc -l | tr -d ' ')
-    for crate in $crates; do rm -f "target/log/$crate.say"; done
+    : > "$scratch/said"
     began=$(date +%s)
     watch &
     watcher=$!
@@ -34,14 +34,14 @@ watch() {
 }
 
 # look: says each crate that rt has begun since the last look. On a terminal it is one line that
-# moves on: the first crate that is still being proved, and the time so far.
+# moves on: the crate that is being proved, and the time so far.
 look() {
     number=0 present=''
     for crate in $crates; do
         number=$((number + 1))
         begun "$crate" || continue
-        tell "proving $crate, $number of $count"
-        is_proved "$crate" || present=${present:-"proving $crate, $number of $count"}
+        present="proving $crate, $number of $count"
+        tell "$present"
     done
     [ ! -t 2 ] || [ -z "$present" ] ||
         printf '\r%-78s' "wuthracomb: $present ($(($(date +%s) - began)) s)" >&2
@@ -65,7 +65,7 @@ erase() {
 
 # begun CRATE: rt has begun to prove it in this run.
 begun() {
-    [ -e "target/log/$1.say" ]
+    grep -q "^rt: chose --jobs [0-9]* for $1\$" "$scratch/said"
 }
 
 # any_begun: rt has begun to prove something in this run.
@@ -74,15 +74,7 @@ any_begun() {
     return 1
 }
 
-# is_proved CRATE: rt has proved it.
-is_proved() {
-    case $(cat "target/log/$1.res" 2> /dev/null) in
-    proved | built) ;;
-    *) return 1 ;;
-    esac
-}
-
-# in_order NAME: NAME and the crates that it stands on by crates.txt, level by level, as rt goes.
+# in_order NAME: NAME and the crates that it stands on by crates.txt, as rt goes.
 in_order() {
     awk -v name="$1" -f command/order.awk crates.txt
 }

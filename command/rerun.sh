@@ -16,8 +16,9 @@ rerun() {
 }
 
 # run_program WORD..: what the program writes, its input on 3, goes to `$scratch/out`. It ended well.
+# Nothing of the environment reaches it.
 run_program() {
-    as_rt_does "$program" "$@" > "$scratch/out"
+    await env -i "$program" "$@" > "$scratch/out"
     ended=$?
     case $ended in
     0) ;;
@@ -32,17 +33,6 @@ take_result() {
     [ -s "$scratch/out" ] || stop "the program wrote no result${why:+: $why}"
     is_result "$scratch/out" ||
         stop "the program wrote no whole result: $(tr '\000\n' '  ' < "$scratch/out")"
-}
-
-# as_rt_does PROGRAM WORD..: runs it as rt does, with the kit's loader and C library, and on a processor
-# other than x86-64 with the kit's emulator. Nothing of the environment reaches it.
-as_rt_does() {
-    kit=$(rt doc)
-    tools=${kit%/docs/*}/on/$(uname -m)/toolchain
-    emulator=$tools/bin/qemu-x86_64
-    [ -x "$emulator" ] || emulator=''
-    await env -i ${emulator:+"$emulator"} \
-        "$tools/lib/ld-linux-x86-64.so.2" --library-path "$tools/lib" "$@"
 }
 
 # how STATUS: how a command ended.
