@@ -80,7 +80,7 @@ impl Clock {
     }
 
     // 11, 12, or the clock after this reading with the number of steps due; of a sound clock.
-    #[tactic(auto, using(crate::proofs::Readings::is_backward, crate::proofs::Readings::is_end), unfolding(crate::specs::Clock::due))]
+    #[tactic(auto, using(crate::proofs::Readings::is_end), unfolding(crate::specs::Clock::due))]
     pub fn tick(self, reading: u64) -> Reading
         requires sound { sound_clock step_length self ≡ true }
         ensures ticked { clock_answer result ≡ answer (clock_order step_length self reading) }

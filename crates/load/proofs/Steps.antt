@@ -1,6 +1,6 @@
 -- Laws of a step: its ranges as facts, the sizes in it, and the quotient rounded down.
 use Prim.Native.Nat.{ℕ, suc, ◌+◌, ◌*◌, ◌/◌, ◌<◌, ◌≤◌}
-use mathlib.Core.Path.{◌≡◌, refl, sym, ◌∙◌}
+use mathlib.Core.Path.{◌≡◌, refl, sym, ap, ap₂, ◌∙◌}
 use mathlib.Core.Logic.{◌↔◌}
 use mathlib.Core.Bool.{Bool, true, false}
 use native.Mathlib.Nat.{mul-le-mul}
@@ -109,6 +109,13 @@ shrunk : (z : ℤ) → nat_abs (shr_z z 1024) ≤ nat_abs z / 1024 + 1
 shrunk (pos a) = omega arith
 shrunk (negsuc a) = omega arith
 
+-- v - p·x/D as the machine computes it, and v', which is that in a word.
+abbrev new_difference : ℕ → Load → ℤ
+new_difference p load = read load.v -ℤ read (shr_z (read (to_z w32 p *ℤ read load.x)) 1024)
+
+abbrev pub new_speed : ℕ → Load → ℤ
+new_speed p load = read (new_difference p load)
+
 -- The sizes in a step from a state in range: all are words.
 module _ (p : ℕ) (load : Load) (soft : p ≤ 1024) (range : in_range load ≡ true) where
   product_size : nat_abs (pos p *ℤ load.x) ≤ 1024 * 32767
@@ -154,20 +161,19 @@ module _ (p : ℕ) (load : Load) (soft : p ≤ 1024) (range : in_range load ≡ 
   stiffness_back : to_z w32 p ≡ pos p
   stiffness_back = to_z_pos w32 (omega (arith, soft))
 
-  pub offset_back : read load.x ≡ load.x
+  offset_back : read load.x ≡ load.x
   offset_back = to_z-of_z {w = w32} (small _ (omega (arith, ((says_range load).0 range).0)))
 
   old_back : read load.v ≡ load.v
   old_back = to_z-of_z {w = w32} (small _ (omega (arith, ((says_range load).0 range).1)))
 
-  -- and what it computes is what the definitions say: p·x, the new speed, the new offset.
+  -- every word on the way fits,
   pub product_word : SFits w32 (to_z w32 p *ℤ read load.x)
   product_word = rw (stiffness_back, offset_back) product_fits
 
-  pub difference_word :
-      SFits w32 (read load.v -ℤ read (shr_z (read (to_z w32 p *ℤ read load.x)) 1024))
+  difference_is : new_difference p load ≡ speed_after p load
   unfolding quotient speed_after
-  difference_word =
+  difference_is =
       simp (
         stiffness_back,
         offset_back,
@@ -175,21 +181,19 @@ module _ (p : ℕ) (load : Load) (soft : p ≤ 1024) (range : in_range load ≡ 
         to_z-of_z {w = w32} product_fits,
         to_z-of_z {w = w32} quotient_fits,
       )
-      speed_fits
 
-  pub speed_back :
-      read (read load.v -ℤ read (shr_z (read (to_z w32 p *ℤ read load.x)) 1024))
-      ≡ speed_after p load
-  unfolding quotient speed_after
-  speed_back =
-      simp (
-        stiffness_back,
-        offset_back,
-        old_back,
-        to_z-of_z {w = w32} product_fits,
-        to_z-of_z {w = w32} quotient_fits,
-        to_z-of_z {w = w32} speed_fits,
-      )
+  pub difference_word : SFits w32 (new_difference p load)
+  difference_word = rw difference_is speed_fits
 
-  pub place_back : read (load.x +ℤ speed_after p load) ≡ load.x +ℤ speed_after p load
-  place_back = to_z-of_z {w = w32} place_fits
+  -- and the new speed and the new offset are those of the definitions.
+  pub new_speed_is : new_speed p load ≡ speed_after p load
+  new_speed_is = ap read difference_is ∙ to_z-of_z {w = w32} speed_fits
+
+  sum_is : read load.x +ℤ new_speed p load ≡ load.x +ℤ speed_after p load
+  sum_is = ap₂ ◌+ℤ◌ offset_back new_speed_is
+
+  pub sum_word : SFits w32 (read load.x +ℤ new_speed p load)
+  sum_word = rw sum_is place_fits
+
+  pub new_offset_is : read (read load.x +ℤ new_speed p load) ≡ load.x +ℤ speed_after p load
+  new_offset_is = ap read sum_is ∙ to_z-of_z {w = w32} place_fits

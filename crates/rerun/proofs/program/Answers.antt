@@ -16,11 +16,10 @@ lines_are (refused number) = refl
 pub returns : goal.returns
 returns c =
     record {
-      text =
-    (
-      c.lines.ensures.lines.0,
-      c.lines.ensures.lines.1
-          ∙ ap (λ (x : Ended). lines_of x.answer x.steps x.state) c.rerun.ensures.rerun
-          ∙ lines_are (answer (program_order c.args.input.now)),
-    );
+      text = (
+        c.lines.ensures.lines.0,
+        c.lines.ensures.lines.1
+            ∙ ap (λ (x : Ended). lines_of x.answer x.steps x.state) c.rerun.ensures.rerun
+            ∙ lines_are (answer (program_order c.args.input.now)),
+      );
     }

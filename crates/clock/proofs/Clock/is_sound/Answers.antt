@@ -16,7 +16,9 @@ pub returns-then-self : goal.returns-then-self
 returns-then-self c = record { sound = sym (not_sound (λ s. omega arith)) }
 
 pub returns-then-counted-passed : goal.returns-then-counted-passed
-returns-then-counted-passed c = record { sound = decides _ (λ e. omega (arith, eqb-true)) (λ e s. omega (arith, eqb-false)) }
+returns-then-counted-passed c =
+    record { sound = decides _ (λ e. omega (arith, eqb-true)) (λ e s. omega (arith, eqb-false)) }
 
 pub returns-else-counted-passed : goal.returns-else-counted-passed
-returns-else-counted-passed c = record { sound = decides _ (λ e. omega (arith, leb-true)) (λ e s. omega arith) }
+returns-else-counted-passed c =
+    record { sound = decides _ (λ e. omega (arith, leb-true)) (λ e s. omega arith) }

@@ -4,8 +4,12 @@ use mathlib.Core.Path.{sym}
 use native.Mathlib.Omega.{arith}
 use Rattle.clock.specs.Clock.{due, ticked}
 use Rattle.clock.proofs.Sound.{sound_says}
-use Rattle.clock.proofs.Readings.{is_taken}
+use Rattle.clock.proofs.Readings.{is_backward, is_taken}
 use Rattle.clock.proofs.Clock.tick.Goals as goal
+
+pub returns-then-reading-self : goal.returns-then-reading-self
+returns-then-reading-self c =
+    record { ticked = sym (is_backward _ _ _ (c.requires.sound, c.if-reading-self.true)) }
 
 pub overflow_add-pool : goal.overflow_add-pool
 overflow_add-pool c =

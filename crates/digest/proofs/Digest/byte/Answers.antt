@@ -1,22 +1,18 @@
 -- `byte` meets its contract. What is multiplied has 32 bits, so that the product fits a u64.
-use Prim.Native.Nat.{◌^◌, ◌<◌}
 use mathlib.Core.Path.{refl}
 use native.Mathlib.Omega.{arith}
 use borrow.Author.Rules.{rules}
-use lib.Bits.{bit_xor}
 use Rattle.digest.specs.Fnv.{with_byte}
 use Rattle.digest.proofs.Fnv.{xor_below}
 use Rattle.digest.proofs.Digest.byte.Goals as goal
 
 pub overflow_cast-value-2 : goal.overflow_cast-value-2
 overflow_cast-value-2 c =
-    let small : bit_xor c.args.self.value c.args.byte < 2 ^ 32 = xor_below c.args.self.value c.args.byte (search rules) (search rules) in
-    omega (arith, small)
+    omega (arith, xor_below c.args.self.value c.args.byte (search rules) (search rules))
 
 pub overflow_mul-value : goal.overflow_mul-value
 overflow_mul-value c =
-    let small : bit_xor c.args.self.value c.args.byte < 2 ^ 32 = xor_below c.args.self.value c.args.byte (search rules) (search rules) in
-    omega (arith, small)
+    omega (arith, xor_below c.args.self.value c.args.byte (search rules) (search rules))
 
 pub returns : goal.returns
 unfolding with_byte

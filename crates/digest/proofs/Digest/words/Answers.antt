@@ -20,4 +20,6 @@ loop-i-preserved c =
 
 pub returns : goal.returns
 unfolding fnv bytes_of_words
-returns c = record { continued = sym (rw (drop_of_length-le _ c.loop-i-test.false) at c.loop-i.invariant) }
+returns c =
+    let none = drop_of_length-le _ c.loop-i-test.false in
+    record { continued = sym (rw none at c.loop-i.invariant) }

@@ -31,13 +31,13 @@ pub returns : goal.returns
 returns c =
     record {
       put =
-    let l = c.loop-i in
-    let a = c.args in
-    let all : l.i ≡ length a.bytes.now = omega arith in (
-      omega arith,
-      rw (l.invariant.2, all)
-          (take-paste a.text.now a.at a.bytes.now (length a.bytes.now)
-          (omega arith) (omega arith)
-          ∙ ap (λ t. take a.at a.text.now ++ t) (take-length a.bytes.now)),
-    );
+          let l = c.loop-i in
+          let a = c.args in
+          let all : l.i ≡ length a.bytes.now = omega arith in (
+            omega arith,
+            rw (l.invariant.2, all)
+                (take-paste a.text.now a.at a.bytes.now (length a.bytes.now)
+                (omega arith) (omega arith)
+                ∙ ap (λ t. take a.at a.text.now ++ t) (take-length a.bytes.now)),
+          );
     }

@@ -15,7 +15,7 @@ put-requires c =
     (omega (arith, c.ranges.n)) c.decimal-k.ensures.len in
     record {
       room =
-    omega (arith, c.decimal-k.ensures.in_bounds.1, spelt.0);
+          omega (arith, c.decimal-k.ensures.in_bounds.1, spelt.0);
     }
 
 pub returns : goal.returns
@@ -24,9 +24,9 @@ returns c =
     (omega (arith, c.ranges.n)) c.decimal-k.ensures.len in
     record {
       put =
-    let a = c.args in (
-      omega (arith, c.put.ensures.put.0, c.decimal-k.ensures.in_bounds.1, spelt.0),
-      c.put.ensures.put.1
-          ∙ ap (λ t. take a.at a.text.now ++ t) (c.decimal-k.ensures.digits ∙ spelt.1),
-    );
+          let a = c.args in (
+            omega (arith, c.put.ensures.put.0, c.decimal-k.ensures.in_bounds.1, spelt.0),
+            c.put.ensures.put.1
+                ∙ ap (λ t. take a.at a.text.now ++ t) (c.decimal-k.ensures.digits ∙ spelt.1),
+          );
     }

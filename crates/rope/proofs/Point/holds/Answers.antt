@@ -5,12 +5,11 @@ use Rattle.rope.proofs.Point.holds.Goals as goal
 
 pub returns-then-not-is_finite : goal.returns-then-not-is_finite
 unfolding finite_point
-returns-then-not-is_finite c = record { holds = rw (failed c.is_finite.ensures.finite c.if-not-is_finite.true) }
+returns-then-not-is_finite c =
+    record { holds = rw (failed c.is_finite.ensures.finite c.if-not-is_finite.true) }
 
 pub returns : goal.returns
 unfolding finite_point
 returns c =
-    record {
-      holds =
-          rw (passed c.is_finite.ensures.finite c.if-not-is_finite.false) c.is_finite-2.ensures.finite;
-    }
+    let place = passed c.is_finite.ensures.finite c.if-not-is_finite.false in
+    record { holds = rw place c.is_finite-2.ensures.finite }

@@ -6,7 +6,7 @@ use mathlib.Core.Bool.{true}
 use lib.ListN.{take}
 use Rattle.basis.specs.Order.{accepted}
 use Rattle.rope.specs.Forces.{sum_of, sum_from, finite_forces}
-use Rattle.rope.specs.Step.{finite_point, moved_by, moved_under}
+use Rattle.rope.specs.Step.{finite_point, moved_by}
 use Rattle.basis.proofs.Tests.{passed, failed}
 use Rattle.rope.proofs.Counted.{none_left, sum_next, next_fails, next_holds}
 use Rattle.rope.proofs.Numbers.{zero_bits}
@@ -33,7 +33,7 @@ loop-i-init c = (search rules, refl, rw zero_bits)
 pub returns-then-not-holds-2 : goal.returns-then-not-holds-2
 returns-then-not-holds-2 c =
     let few : c.args.count ≤ 8 = c.if-count-gt-MOST.false in
-    let point_holds : finite_point c.args.self ≡ true = passed c.holds.ensures.holds c.if-not-holds.false in
+    let point_holds = passed c.holds.ensures.holds c.if-not-holds.false in
     record {
       stepped =
           let a = c.args in
@@ -60,18 +60,15 @@ loop-i-preserved c =
 pub returns-then-not-holds-3 : goal.returns-then-not-holds-3
 unfolding finite_forces sum_from
 returns-then-not-holds-3 c =
-    let few : c.args.count ≤ 8 = c.if-count-gt-MOST.false in
-    let point_holds : finite_point c.args.self ≡ true = passed c.holds.ensures.holds c.if-not-holds.false in
-    let forces_hold : finite_forces (take c.args.count c.args.forces) ≡ true = let a = c.args in
-    c.loop-i.invariant.1
-    ∙ ap finite_forces
-    (none_left a.forces a.count c.loop-i.i (search rules) (search rules) (search rules)) in
-    let sum_is : c.loop-i.sum ≡ sum_of c.args.self (take c.args.count c.args.forces) = let a = c.args in
-    sym
-    (c.loop-i.invariant.2
-    ∙ ap (sum_from _ _)
-    (none_left a.forces a.count c.loop-i.i (search rules) (search rules) (search rules))) in
-    let result : c.moved-next.result ≡ moved_under c.args.self (take c.args.count c.args.forces) = c.moved-next.ensures.moved ∙ ap (moved_by _) sum_is in
+    let a = c.args in
+    let few : a.count ≤ 8 = c.if-count-gt-MOST.false in
+    let point_holds = passed c.holds.ensures.holds c.if-not-holds.false in
+    let none = none_left a.forces a.count c.loop-i.i (search rules) (search rules) (search rules) in
+    let forces_hold : finite_forces (take a.count a.forces) ≡ true =
+    c.loop-i.invariant.1 ∙ ap finite_forces none in
+    let sum_is : c.loop-i.sum ≡ sum_of a.self (take a.count a.forces) =
+    sym (c.loop-i.invariant.2 ∙ ap (sum_from _ _) none) in
+    let result = c.moved-next.ensures.moved ∙ ap (moved_by _) sum_is in
     record {
       stepped =
           sym
@@ -82,18 +79,15 @@ returns-then-not-holds-3 c =
 pub returns : goal.returns
 unfolding finite_forces sum_from
 returns c =
-    let few : c.args.count ≤ 8 = c.if-count-gt-MOST.false in
-    let point_holds : finite_point c.args.self ≡ true = passed c.holds.ensures.holds c.if-not-holds.false in
-    let forces_hold : finite_forces (take c.args.count c.args.forces) ≡ true = let a = c.args in
-    c.loop-i.invariant.1
-    ∙ ap finite_forces
-    (none_left a.forces a.count c.loop-i.i (search rules) (search rules) (search rules)) in
-    let sum_is : c.loop-i.sum ≡ sum_of c.args.self (take c.args.count c.args.forces) = let a = c.args in
-    sym
-    (c.loop-i.invariant.2
-    ∙ ap (sum_from _ _)
-    (none_left a.forces a.count c.loop-i.i (search rules) (search rules) (search rules))) in
-    let result : c.moved-next.result ≡ moved_under c.args.self (take c.args.count c.args.forces) = c.moved-next.ensures.moved ∙ ap (moved_by _) sum_is in
+    let a = c.args in
+    let few : a.count ≤ 8 = c.if-count-gt-MOST.false in
+    let point_holds = passed c.holds.ensures.holds c.if-not-holds.false in
+    let none = none_left a.forces a.count c.loop-i.i (search rules) (search rules) (search rules) in
+    let forces_hold : finite_forces (take a.count a.forces) ≡ true =
+    c.loop-i.invariant.1 ∙ ap finite_forces none in
+    let sum_is : c.loop-i.sum ≡ sum_of a.self (take a.count a.forces) =
+    sym (c.loop-i.invariant.2 ∙ ap (sum_from _ _) none) in
+    let result = c.moved-next.ensures.moved ∙ ap (moved_by _) sum_is in
     record {
       stepped =
           ap accepted result

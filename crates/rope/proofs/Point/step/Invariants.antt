@@ -8,7 +8,8 @@ abbrev pub invariant-loop-i : goal.invariant-loop-i
 invariant-loop-i l =
     (l.i ≤ l.count)
     × (finite_forces (take l.count l.forces) ≡ finite_forces (drop l.i (take l.count l.forces)))
-    × (sum_of l.self (take l.count l.forces) ≡ sum_from l.self l.sum (drop l.i (take l.count l.forces)))
+    × (sum_of l.self (take l.count l.forces)
+    ≡ sum_from l.self l.sum (drop l.i (take l.count l.forces)))
 
 abbrev pub decreases-loop-i : goal.decreases-loop-i
 decreases-loop-i l = l.count - l.i
