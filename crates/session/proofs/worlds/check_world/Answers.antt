@@ -22,9 +22,9 @@ returns-then-not-cells_hold c =
     let long : c.args.lengths ≡ true = c.if-not-lengths.false in
     record {
       order =
-    sym
-    (no_cells _ _ _ _ in_range long
-    (failed c.cells_hold.ensures.cells c.if-not-cells_hold.true));
+          sym
+          (no_cells _ _ _ _ in_range long
+          (failed c.cells_hold.ensures.cells c.if-not-cells_hold.true));
     }
 
 pub sizes_hold-requires : goal.sizes_hold-requires
@@ -33,7 +33,7 @@ sizes_hold-requires c =
     let long : c.args.lengths ≡ true = c.if-not-lengths.false in
     record {
       room =
-    boxes_fit _ in_range _ (c.requires.room long).1;
+          boxes_fit _ in_range _ (c.requires.room long).1;
     }
 
 pub returns-then-not-sizes_hold : goal.returns-then-not-sizes_hold
@@ -43,9 +43,9 @@ returns-then-not-sizes_hold c =
     let celled : cells_hold c.args.cells.now ≡ true = passed c.cells_hold.ensures.cells c.if-not-cells_hold.false in
     record {
       order =
-    sym
-    (no_sizes _ _ _ _ in_range long celled
-    (failed c.sizes_hold.ensures.sizes c.if-not-sizes_hold.true));
+          sym
+          (no_sizes _ _ _ _ in_range long celled
+          (failed c.sizes_hold.ensures.sizes c.if-not-sizes_hold.true));
     }
 
 pub starts_hold-requires : goal.starts_hold-requires
