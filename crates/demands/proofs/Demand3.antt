@@ -7,7 +7,7 @@ use mathlib.Core.List.{List, [], ◌∷◌, Memᴰ, flatten}
 use lib.Dec.{eqb}
 use borrow.Author.Tests.{eq-eqb}
 use Rattle.basis.specs.Numbers.{TAKEN}
-use Rattle.basis.specs.Order.{Answer, refused, accepted, answer}
+use Rattle.basis.specs.Order.{Answer, refused, accepted}
 use Rattle.basis.proofs.Order.{apart, mapped}
 use Rattle.basis.proofs.Tests.{never}
 use Rattle.record.specs.Bytes.{record_of}

@@ -1,10 +1,8 @@
 -- Every session as in demand 3 has the words of a session of the model.
-use Prim.Native.Nat.{ℕ, ◌*◌}
+use Prim.Native.Nat.{ℕ}
 use mathlib.Core.Path.{◌≡◌, refl, sym, ap, ◌∙◌}
-use mathlib.Core.List.{List, [], ◌∷◌, flatten}
-use native.Mathlib.Omega.{arith}
+use mathlib.Core.List.{List, [], ◌∷◌}
 use lib.IntN.{pos}
-use lib.ListN.{replicate}
 use Rattle.basis.specs.Numbers.{row_count}
 use Rattle.basis.specs.Order.{Answer, refused, accepted}
 use Rattle.basis.proofs.Order.{mapped}

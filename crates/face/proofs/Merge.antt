@@ -1,7 +1,7 @@
 -- `wuthracomb_merge`, number by number.
 use Prim.Native.Nat.{ℕ}
 use mathlib.Core.Path.{◌≡◌, refl, ap}
-use mathlib.Core.Logic.{◌⊎◌, inl}
+use mathlib.Core.Logic.{inl}
 use mathlib.Core.List.{List, [], ◌∷◌}
 use lib.ListN.{length}
 use Rattle.basis.specs.LittleEndian.{Bytes}

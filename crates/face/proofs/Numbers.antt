@@ -42,7 +42,7 @@ use Rattle.session.proofs.Deliveries.{place_order}
 use Rattle.session.proofs.Facts.{lengths_fit, room_fits, sound_means}
 use Rattle.session.proofs.Good.{good}
 use Rattle.station.specs.Face.{open_face, reading_face, deliver_face, digest_face, shown_face, shows}
-use Rattle.station.specs.Face.{log_sound, step_records_face, read_record_face, write_record_face}
+use Rattle.station.specs.Face.{step_records_face, read_record_face, write_record_face}
 use Rattle.station.specs.Left.{Left, left, fills, leaves_running, leaves_delivered}
 use Rattle.station.specs.Says.{LogSoundSays, DeliverSays}
 use Rattle.station.specs.Words.{session_of}

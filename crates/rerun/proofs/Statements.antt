@@ -7,7 +7,7 @@ use native.Mathlib.Omega.{arith}
 use lib.Dec.{leb}
 use lib.ListN.{length, take}
 use lib.Seq.{take_all, length-take-le}
-use borrow.Author.Tests.{lt-leb, leb-true, leb-false}
+use borrow.Author.Tests.{leb-true, leb-false}
 use Rattle.basis.specs.Numbers.{LOG, most_steps}
 use Rattle.basis.specs.Order.{Answer, answer, refused, accepted}
 use Rattle.basis.proofs.Order.{held, given, apart}
@@ -32,7 +32,7 @@ use Rattle.rerun.specs.Text.{decimal_to, word_text, words_text, lines_of}
 use Rattle.rerun.proofs.Past.{too_long, unsound, reruns, replays, sound_within}
 
 long : (input : List ℕ) → buffer_size < length input → answer (program_order input) ≡ refused LOG
-long input h = too_long input (lt-leb _ _ h)
+long input h = too_long input h
 
 enough : (input : List ℕ)
     → answer (program_order (take (buffer_size + 1) input)) ≡ answer (program_order input)
@@ -49,7 +49,7 @@ enough input = go (leb (length input) buffer_size) refl
         omega (arith, leb-false (length input) buffer_size e) in
         let same : length (take (buffer_size + 1) input) ≡ buffer_size + 1 =
         length-take-le (buffer_size + 1) input more in
-        long (take (buffer_size + 1) input) (omega (arith, same)) ∙ sym (too_long input e)
+        long (take (buffer_size + 1) input) (omega (arith, same)) ∙ sym (too_long input more)
 
 number : {n : ℕ} → ◌≡◌ {A = Answer End} (refused n) (refused LOG) → n ≡ LOG
 number e = cc

@@ -18,6 +18,7 @@ use record::Buffer;
 use text::{Text, lines};
 
 // What the program writes for an input, at the front of the text; and how long it is.
+#[tactic(auto, unfolding(crate::specs::Text::lines_of))]
 fn program(input: &[u8], text: &mut [u8]) -> usize
     requires room { text_room ≤ length text.old }
     ensures text { (result ≤ text_room)

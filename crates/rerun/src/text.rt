@@ -65,6 +65,7 @@ fn put_word(text: &mut [u8], at: usize, z: i32) -> usize
 }
 
 // The words of the state.
+#[tactic(auto, unfolding(crate::specs::Text::words_text))]
 fn put_state(text: &mut [u8], at: usize, state: [i32; State::WORDS]) -> usize
     requires room { (length state ≡ carrier_words) × (at + state_room ≤ length text.old) }
     ensures put { (result ≤ at + state_room)
@@ -78,6 +79,7 @@ fn put_state(text: &mut [u8], at: usize, state: [i32; State::WORDS]) -> usize
 }
 
 // The lines, at the front of the text, and how long they are.
+#[tactic(auto, unfolding(crate::specs::Text::lines_of, crate::specs::Ascii::ascii))]
 pub fn lines(ended: Ended, text: &mut [u8]) -> usize
     requires room { (length ended.state ≡ carrier_words) × (text_room ≤ length text.old) }
     ensures lines { (result ≤ text_room)

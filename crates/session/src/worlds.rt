@@ -59,6 +59,7 @@ pub fn has_room(
 }
 
 // Opening's order, where rule 10 has been answered.
+#[tactic(auto, using(crate::proofs::Openings::no_ranges))]
 pub fn check_world(yard: Yard, lengths: bool, cells: &[u8], boxes: &[i32]) -> Checked
     requires room { lengths ≡ true
         → (length cells.now ≡ yard.w * yard.h) × (length boxes.now ≡ 4 * yard.b) }

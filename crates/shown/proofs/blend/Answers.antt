@@ -28,6 +28,6 @@ pub returns : goal.returns
 returns c =
     record {
       blended =
-    operations c.args.previous c.args.present c.args.remainder c.ranges.previous
-    c.ranges.present;
+          operations c.args.previous c.args.present c.args.remainder c.ranges.previous
+          c.ranges.present;
     }

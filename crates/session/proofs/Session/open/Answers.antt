@@ -14,8 +14,8 @@ pub check_world-requires : goal.check_world-requires
 check_world-requires c =
     record {
       room = λ e.
-    let long = room_says _ _ (sym c.has_room-lengths.ensures.room ∙ e) in
-    (long.world.cells, long.world.boxes);
+          let long = room_says _ _ (sym c.has_room-lengths.ensures.room ∙ e) in
+          (long.world.cells, long.world.boxes);
     }
 
 pub start-requires : goal.start-requires
@@ -26,7 +26,7 @@ start-requires c =
     let accepts : let l = mem in let yard = c.args.yard in answer (world_order yard (room yard l) l.cells l.boxes) ≡ accepted tt = told ∙ ap checked_of c.in-Passed.is in
     let passes : let l = mem in let yard = c.args.yard in Passes yard (room yard l) l.cells l.boxes = passes_say _ _ _ _ accepts in
     let long = room_says _ _ passes.long in
- record { room = boxes_fit _ passes.ranges _ long.world.boxes; words = long.world.state }
+    record { room = boxes_fit _ passes.ranges _ long.world.boxes; words = long.world.state }
 
 pub returns-in-Refused : goal.returns-in-Refused
 returns-in-Refused c =
@@ -35,9 +35,9 @@ returns-in-Refused c =
     let told : let l = mem in let yard = c.args.yard in answer (world_order yard (room yard l) l.cells l.boxes) ≡ checked_of c.check_world.result = rw c.has_room-lengths.ensures.room at (sym c.check_world.ensures.order) in
     record {
       opened =
-    sym
-    (ap (leaves mem)
-    (open_refuses _ _ mem (told ∙ ap checked_of c.in-Refused.is)));
+          sym
+          (ap (leaves mem)
+          (open_refuses _ _ mem (told ∙ ap checked_of c.in-Refused.is)));
     }
 
 pub returns-in-Passed : goal.returns-in-Passed
@@ -49,14 +49,14 @@ returns-in-Passed c =
     let passes : let l = mem in let yard = c.args.yard in Passes yard (room yard l) l.cells l.boxes = passes_say _ _ _ _ accepts in
     record {
       opened =
-    let long = room_says _ _ passes.long in
-    rw (
-      open_gives _ _ mem accepts,
-      c.new.ensures.opened,
-      c.start.ensures.started,
-      c.clear_rows.ensures.cleared,
-      long.rows,
-      c.clear.ensures.cleared,
-      long.log,
-    );
+          let long = room_says _ _ passes.long in
+          rw (
+            open_gives _ _ mem accepts,
+            c.new.ensures.opened,
+            c.start.ensures.started,
+            c.clear_rows.ensures.cleared,
+            long.rows,
+            c.clear.ensures.cleared,
+            long.log,
+          );
     }

@@ -76,10 +76,10 @@ returns-in-Refused c =
     let ok : sound c.args.self mem ≡ true = passed c.is_sound.ensures.sound c.if-not-is_sound.false in
     record {
       read =
-    sym
-    (ap (leaves mem)
-    (clock_refuses c.args.self mem c.args.reading ok _
-    (sym c.tick.ensures.ticked ∙ ap clock_answer c.in-Refused.is)));
+          sym
+          (ap (leaves mem)
+          (clock_refuses c.args.self mem c.args.reading ok _
+          (sym c.tick.ensures.ticked ∙ ap clock_answer c.in-Refused.is)));
     }
 
 pub returns-in-Accepted : goal.returns-in-Accepted
@@ -91,9 +91,9 @@ returns-in-Accepted c =
     let gave : answer (clock_order step_length c.args.self.clock c.args.reading) ≡ accepted given = sym c.tick.ensures.ticked ∙ ap clock_answer c.in-Accepted.is in
     record {
       read =
-    let due : c.args.self.clock.steps + given.due - c.args.self.clock.steps
-    ≡ given.due = omega arith in
-    read_left c.args.self mem given _ _ _ due c.run_saving.ensures.ran
-    ∙ sym (ap (leaves mem)
-    (clock_gives c.args.self mem c.args.reading ok given gave));
+          let due : c.args.self.clock.steps + given.due - c.args.self.clock.steps
+          ≡ given.due = omega arith in
+          read_left c.args.self mem given _ _ _ due c.run_saving.ensures.ran
+          ∙ sym (ap (leaves mem)
+          (clock_gives c.args.self mem c.args.reading ok given gave));
     }

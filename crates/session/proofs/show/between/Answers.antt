@@ -8,12 +8,12 @@ pub returns : goal.returns
 returns c =
     record {
       placed =
-    let a = c.args in
-    c.shown.ensures.placed
-    ∙ simp (
-      got a.previous.x (search rules),
-      got a.previous.y (search rules),
-      got a.present.x (search rules),
-      got a.present.y (search rules),
-    );
+          let a = c.args in
+          c.shown.ensures.placed
+          ∙ simp (
+            got a.previous.x (search rules),
+            got a.previous.y (search rules),
+            got a.present.x (search rules),
+            got a.present.y (search rules),
+          );
     }

@@ -13,5 +13,5 @@ pub returns : goal.returns
 returns c =
     record {
       digested =
-    digest_given _ _ (passed c.is_sound.ensures.sound c.if-not-is_sound.false) _ c.of_state.ensures.digested;
+          digest_given _ _ (passed c.is_sound.ensures.sound c.if-not-is_sound.false) _ c.of_state.ensures.digested;
     }

@@ -47,7 +47,7 @@ load-present-requires c =
     let ok : sound session mem ≡ true = passed c.is_sound.ensures.sound c.if-not-is_sound.false in
     record {
       there =
-    in_state _ _ ok _ c.if-carrier-yard.false;
+          in_state _ _ ok _ c.if-carrier-yard.false;
     }
 
 pub returns-then-steps-eq0 : goal.returns-then-steps-eq0
@@ -58,8 +58,8 @@ returns-then-steps-eq0 c =
     let ok : sound session mem ≡ true = passed c.is_sound.ensures.sound c.if-not-is_sound.false in
     record {
       shown =
-    first_shown _ _ ok _ c.if-carrier-yard.false c.if-steps-eq0.true _ _
-    c.load-present.ensures.loaded c.between.ensures.placed;
+          first_shown _ _ ok _ c.if-carrier-yard.false c.if-steps-eq0.true _ _
+          c.load-present.ensures.loaded c.between.ensures.placed;
     }
 
 pub row_sound-requires : goal.row_sound-requires
@@ -69,7 +69,7 @@ row_sound-requires c =
     lent a.cells.now a.boxes.now a.state.now a.rows.now a.log.now in
     let ok : sound session mem ≡ true = passed c.is_sound.ensures.sound c.if-not-is_sound.false in
     let g = good _ _ ok in
- record { world = world_fits _ _ g; room = rows_fit _ _ g }
+    record { world = world_fits _ _ g; room = rows_fit _ _ g }
 
 pub returns-then-not-row_sound : goal.returns-then-not-row_sound
 returns-then-not-row_sound c =
@@ -79,8 +79,8 @@ returns-then-not-row_sound c =
     let ok : sound session mem ≡ true = passed c.is_sound.ensures.sound c.if-not-is_sound.false in
     record {
       shown =
-    row_fault _ _ ok _ c.if-carrier-yard.false c.if-steps-eq0.false
-    (failed c.row_sound.ensures.rule c.if-not-row_sound.true);
+          row_fault _ _ ok _ c.if-carrier-yard.false c.if-steps-eq0.false
+          (failed c.row_sound.ensures.rule c.if-not-row_sound.true);
     }
 
 pub load_row-previous-requires : goal.load_row-previous-requires
@@ -90,7 +90,7 @@ load_row-previous-requires c =
     lent a.cells.now a.boxes.now a.state.now a.rows.now a.log.now in
     let ok : sound session mem ≡ true = passed c.is_sound.ensures.sound c.if-not-is_sound.false in
     let g = good _ _ ok in
- record { few = carriers_most _ g.ranges; there = (c.if-carrier-yard.false, rows_fit _ _ g) }
+    record { few = carriers_most _ g.ranges; there = (c.if-carrier-yard.false, rows_fit _ _ g) }
 
 pub returns : goal.returns
 returns c =
@@ -100,7 +100,7 @@ returns c =
     let ok : sound session mem ≡ true = passed c.is_sound.ensures.sound c.if-not-is_sound.false in
     record {
       shown =
-    row_shown _ _ ok _ c.if-carrier-yard.false c.if-steps-eq0.false
-    (passed c.row_sound.ensures.rule c.if-not-row_sound.false) _ _ _ c.load_row-previous.ensures.loaded
-    c.load-present.ensures.loaded c.between-2.ensures.placed;
+          row_shown _ _ ok _ c.if-carrier-yard.false c.if-steps-eq0.false
+          (passed c.row_sound.ensures.rule c.if-not-row_sound.false) _ _ _ c.load_row-previous.ensures.loaded
+          c.load-present.ensures.loaded c.between-2.ensures.placed;
     }

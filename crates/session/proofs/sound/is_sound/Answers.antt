@@ -21,8 +21,8 @@ pub sizes_hold-requires : goal.sizes_hold-requires
 sizes_hold-requires c =
     record {
       room =
-    boxes_fit _ (passed c.ranges_hold.ensures.ranges c.if-not-ranges_hold.false) _
-    (room_says _ _ (passed c.has_room.ensures.room c.if-not-has_room.false)).world.boxes;
+          boxes_fit _ (passed c.ranges_hold.ensures.ranges c.if-not-ranges_hold.false) _
+          (room_says _ _ (passed c.has_room.ensures.room c.if-not-has_room.false)).world.boxes;
     }
 
 pub returns-then-not-sizes_hold : goal.returns-then-not-sizes_hold
@@ -35,7 +35,7 @@ pub records_sound-requires : goal.records_sound-requires
 records_sound-requires c =
     record {
       size =
-    (room_says _ _ (passed c.has_room.ensures.room c.if-not-has_room.false)).log;
+          (room_says _ _ (passed c.has_room.ensures.room c.if-not-has_room.false)).log;
     }
 
 pub returns-then-not-records_sound : goal.returns-then-not-records_sound
@@ -44,24 +44,27 @@ returns-then-not-records_sound c = record { sound = sym (bad_buffer _ _ (failed 
 pub state_sound-requires : goal.state_sound-requires
 state_sound-requires c =
     let ranges = passed c.ranges_hold.ensures.ranges c.if-not-ranges_hold.false in
-    let room = room_says _ _ (passed c.has_room.ensures.room c.if-not-has_room.false) in record { world = record {
+    let room = room_says _ _ (passed c.has_room.ensures.room c.if-not-has_room.false) in record {
+      world = record {
         laid = cells_fit _ ranges _ room.world.cells;
         room = boxes_fit _ ranges _ room.world.boxes;
         sizes = passed c.sizes_hold.ensures.sizes c.if-not-sizes_hold.false;
-      }; room = room.world.state }
+      };
+      room = room.world.state;
+    }
 
 pub returns : goal.returns
 unfolding sound
 returns c =
     record {
       sound =
-    rw (
-      passed c.ranges_hold.ensures.ranges c.if-not-ranges_hold.false,
-      passed c.has_room.ensures.room c.if-not-has_room.false,
-      passed c.cells_hold.ensures.cells c.if-not-cells_hold.false,
-      passed c.sizes_hold.ensures.sizes c.if-not-sizes_hold.false,
-      passed c.is_sound.ensures.sound c.if-not-is_sound.false,
-      passed c.records_sound.ensures.sound c.if-not-records_sound.false,
-    )
-    c.state_sound.ensures.rule;
+          rw (
+            passed c.ranges_hold.ensures.ranges c.if-not-ranges_hold.false,
+            passed c.has_room.ensures.room c.if-not-has_room.false,
+            passed c.cells_hold.ensures.cells c.if-not-cells_hold.false,
+            passed c.sizes_hold.ensures.sizes c.if-not-sizes_hold.false,
+            passed c.is_sound.ensures.sound c.if-not-is_sound.false,
+            passed c.records_sound.ensures.sound c.if-not-records_sound.false,
+          )
+          c.state_sound.ensures.rule;
     }

@@ -12,16 +12,16 @@ pub returns-then-rows-b : goal.returns-then-rows-b
 returns-then-rows-b c =
     record {
       room =
-    sym
-    (rows_wrong _ _ (passed c.world_room.ensures.room c.if-not-world_room.false)
-    (λ e. c.if-rows-b.true (omega arith)));
+          sym
+          (rows_wrong _ _ (passed c.world_room.ensures.room c.if-not-world_room.false)
+          (λ e. c.if-rows-b.true (omega arith)));
     }
 
 pub returns : goal.returns
 returns c =
     record {
       room =
-    sym
-    (log_decides _ _ (passed c.world_room.ensures.room c.if-not-world_room.false)
-    (omega arith));
+          sym
+          (log_decides _ _ (passed c.world_room.ensures.room c.if-not-world_room.false)
+          (omega arith));
     }

@@ -29,9 +29,9 @@ pub returns : goal.returns
 returns c =
     record {
       placed =
-    let a = c.args in
-    both a.px a.py a.cx a.cy a.remainder
-    (read_back a.px a.cx a.remainder c.ranges.px c.ranges.cx
-    c.blend-x.ensures.blended)
-    (read_back a.py a.cy a.remainder c.ranges.py c.ranges.cy c.blend-y.ensures.blended);
+          let a = c.args in
+          both a.px a.py a.cx a.cy a.remainder
+          (read_back a.px a.cx a.remainder c.ranges.px c.ranges.cx
+          c.blend-x.ensures.blended)
+          (read_back a.py a.cy a.remainder c.ranges.py c.ranges.cy c.blend-y.ensures.blended);
     }
