@@ -62,7 +62,7 @@ returns-then-not-kinds_hold c =
 pub forces_of-requires : goal.forces_of-requires
 forces_of-requires c =
     let two : eqb (length c.args.numbers.now) (2 * length c.args.kinds.now) ≡ true = passed c.two_each.ensures.two c.if-not-two_each.false in
-    record { few = c.if-kinds-gt-MOST.false; two = eqb-true _ _ two }
+    record { few = omega arith; two = eqb-true _ _ two }
 
 pub bounds-point-1-in-Moved : goal.bounds-point-1-in-Moved
 bounds-point-1-in-Moved c =
