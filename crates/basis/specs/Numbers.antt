@@ -42,7 +42,7 @@ FULL = 8
 abbrev pub WORLD : ℕ
 WORLD = 9
 
--- 'at opening or replay, a lent length isn't exactly W-as-H cell bytes, 4·B world words, 5·B state
+-- 'at opening or replay, a lent length isn't exactly W·H cell bytes, 4·B world words, 5·B state
 -- words, 320·B row words, 16,384 log bytes'
 abbrev pub ROOM : ℕ
 ROOM = 10

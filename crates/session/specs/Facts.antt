@@ -13,7 +13,7 @@ use Rattle.session.specs.declared.Session.{Session}
 use Rattle.session.specs.Lent.{Lent, world_in, held_in}
 use Rattle.session.specs.Calls.{row_in}
 
--- Rule 10 without rows and log: 'exactly W-as-H cell bytes, 4·B world words, 5·B state words'.
+-- Rule 10 without rows and log: 'exactly W·H cell bytes, 4·B world words, 5·B state words'.
 pub record Lengths (yard : Yard) (cells : List ℕ) (boxes state : List ℤ) : Type 0 where
   pub cell_bytes : length cells ≡ yard.w * yard.h
   pub world_words : length boxes ≡ 4 * yard.b

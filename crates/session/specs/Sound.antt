@@ -10,7 +10,7 @@ use Rattle.fleet.specs.State.{carrier_words, sound_state}
 use Rattle.session.specs.declared.Session.{Session}
 use Rattle.session.specs.Lent.{Lent, world_in}
 
--- Rule 10, 'exactly W-as-H cell bytes, 4·B world words, 5·B state words': the lengths of replay.
+-- Rule 10, 'exactly W·H cell bytes, 4·B world words, 5·B state words': the lengths of replay.
 unfoldable pub world_room : Yard → ℕ → ℕ → ℕ → Bool
 world_room yard cells boxes state =
     eqb cells (yard.w * yard.h)

@@ -12,7 +12,7 @@ word boxes i k = get_or boxes (4 * i + k) (pos 0)
 unfoldable pub size_of : List ℤ → ℕ → Size
 size_of boxes i = record { w = nat_abs (word boxes i 2); h = nat_abs (word boxes i 3) }
 
--- W and H at most 64, and W-as-H cell bytes.
+-- W and H at most 64, and W·H cell bytes.
 pub record CellsFit (yard : Yard) (cells : List ℕ) : Type 0 where
   pub w : yard.w ≤ 64
   pub h : yard.h ≤ 64
