@@ -13,6 +13,7 @@ WORD = re.compile(r"[^\s(){},;:.∷→≡×λ]+")
 START = re.compile(r"(?:abbrev pub|unfoldable pub|pub record|pub data|pub(?! mod))\s+([^\s:({]+)")
 PROGRAM = re.compile(r"^fn program\(.*?\n\{\n", re.S | re.M)
 HEAD = re.compile(r"^( *)pub fn (\w+)(.*?)\n\1\{\n", re.S | re.M)
+IMPL = r"^impl(?:<[^>]*>)? (?:[\w:<>]+ for )?(\w+)"
 USE = re.compile(r"^(pub )?use ((?:\w+::)+)(?:(\w+)|\{([^}]*)\});", re.M)
 SPECS = r"^(?:ghost )?use Rattle\.(\w+)\.specs\."
 DEFINITION, TYPE, ENTRY = "definition", "type", "entry"
@@ -94,7 +95,7 @@ def entries(crate, path, lib):
     given = set(re.findall(r"^pub (?:struct|enum) (\w+)", lib, re.M))
     given |= {name.split("::")[-1] for name in uses(lib, "pub ")}
     for head in HEAD.finditer(text):
-        owner = re.findall(r"^impl (\w+)", text[:head.start()], re.M)[-1] if head[1] else ""
+        owner = re.findall(IMPL, text[:head.start()], re.M)[-1] if head[1] else ""
         out = owner in given if owner else head[2] in given or path.endswith("/lib.rt")
         if not out or re.search(r"^\s*requires ", head[0], re.M):
             continue
