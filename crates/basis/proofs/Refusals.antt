@@ -2,7 +2,6 @@
 use Prim.Native.Nat.{ℕ}
 use mathlib.Core.Path.{◌≡◌, refl, sym, ◌∙◌, ap}
 use Rattle.std.specs.Prelude.{cond, eqb, Result, Ok, Err}
-use Rattle.basis.specs.Order.{Answer, refused, accepted}
 use Rattle.basis.specs.Refusal.{number_of, answer_of}
 use Rattle.basis.specs.declared.Refusal.{Refusal}
 use Rattle.basis.specs.declared.Refusal.TheVariants as why
