@@ -4,15 +4,13 @@ use mathlib.Core.Path.{◌≡◌, refl, ◌∙◌}
 use mathlib.Core.Logic.Iff
 use mathlib.Core.Logic.{◌↔◌, ◌≢◌}
 use mathlib.Core.List.{List}
-use mathlib.Core.Option.{Option, some}
+use Rattle.std.specs.Prelude.{Option, Some}
 use mathlib.Core.Bool.{Bool, true, false, cond, ◌&&◌}
 use native.Mathlib.Omega.{arith}
 use lib.IntN.{ℤ, pos}
 use lib.ListN.{length}
 use lib.Dec.{eqb, ltb}
 use borrow.Author.Tests.{eqb-true, eqb-false, ltb-true, ltb-false}
-use Rattle.basis.specs.declared.HeldLever.{HeldLever}
-use Rattle.basis.specs.HeldLever.{held_of}
 use Rattle.basis.proofs.Lists.{paste_at, paste_before, paste_after}
 use Rattle.record.specs.Buffer.{lever_at}
 use Rattle.record.specs.declared.bytes.Record.{Record}
@@ -113,7 +111,7 @@ unfolding sound_state
 each_free world state e i l = (good_of _ _ (passes _ _ e i l)).here
 
 -- A carrier's step keeps the state rule.
-module _ (world : World) (held : HeldLever) (i : ℕ) (state : List ℤ) (h : i < world.yard.b)
+module _ (world : World) (held : Option ℕ) (i : ℕ) (state : List ℤ) (h : i < world.yard.b)
     (fits : LeverFits held) (s : StateFits world state) where
   room : carrier_words * i + carrier_words ≤ length state
   room = omega (arith, s.room)
@@ -153,13 +151,13 @@ module _ (world : World) (held : HeldLever) (i : ℕ) (state : List ℤ) (h : i 
   one_keeps = record { room = length_put i _ state room ∙ s.room; sound = all_pass _ _ each }
 
 -- The steps of the carriers below i keep it, and so does a step of all.
-module _ (world : World) (levers : ℕ → Option ℕ) (fits : (i : ℕ) → LeverFits (held_of (levers i)))
+module _ (world : World) (levers : ℕ → Option ℕ) (fits : (i : ℕ) → LeverFits (levers i))
     (state : List ℤ) (s : StateFits world state) where
   pub to_keeps : (i : ℕ) → i ≤ world.yard.b → StateFits world (step_to world levers i state)
   unfolding step_to
   to_keeps zero h = s
   to_keeps (suc i) h =
-      one_keeps world (held_of (levers i)) i (step_to world levers i state) h (fits i)
+      one_keeps world (levers i) i (step_to world levers i state) h (fits i)
       (to_keeps i (omega arith))
 
   pub all_keeps : StateFits world (step_all world levers state)
@@ -168,14 +166,14 @@ module _ (world : World) (levers : ℕ → Option ℕ) (fits : (i : ℕ) → Lev
 
 -- A lever that records within the limits hold is 0 to 9.
 pub lever_fits : {carriers : ℕ} {l : List Record} (t i : ℕ) → AllWithin carriers l
-    → LeverFits (held_of (lever_at t i l))
+    → LeverFits (lever_at t i l)
 unfolding lever_at
 lever_fits t i done = tt
 lever_fits t i (more {r = r} {rest = rest} w a) =
     go (eqb r.step t && eqb r.carrier i) (lever_fits t i a)
   where
-    go : (b : Bool) → LeverFits (held_of (lever_at t i rest))
-        → LeverFits (held_of (cond b (some r.lever) (lever_at t i rest)))
+    go : (b : Bool) → LeverFits (lever_at t i rest)
+        → LeverFits (cond b (Some r.lever) (lever_at t i rest))
     go true f = w.lever
     go false f = f
 
