@@ -2,6 +2,7 @@
 
 ghost use Rattle.std.specs.Prelude.{◌≡◌, ◌*◌, ◌<◌, length};
 ghost use Rattle.yard.specs.Boxes.{size_of};
+ghost use Rattle.yard.specs.Free.{free, free_on};
 ghost use Rattle.fleet.specs.State.{carrier_words, sound_state, world_of};
 ghost use Rattle.fleet.specs.Fits.{WorldFits};
 
@@ -21,10 +22,10 @@ impl<'a> Site<'a> {
     ghost use Rattle.fleet.specs.Site.{world_at};
 
     // Where carrier i moves.
-    pub fn ground(self, i: usize) -> Ground<'a>
-        requires there { i < self.yard.b }
-        ensures part { (result.yard ≡ self.yard) × (result.cells.now ≡ self.cells.now)
-            × (result.size ≡ size_of self.boxes.now i) }
+    pub(super) fn ground(&self, i: usize) -> Ground<'a>
+        requires there { i < self.now.yard.b }
+        ensures free { free_on result
+            ≡ free self.now.yard self.now.cells.now (size_of self.now.boxes.now i) }
     {
         Ground {
             yard: self.yard,
@@ -34,9 +35,9 @@ impl<'a> Site<'a> {
     }
 
     // The state rule: each carrier free, speeds within 200, lever 0 to 9.
-    pub fn state_sound(self, state: &[i32]) -> bool
-        requires room { length state.now ≡ carrier_words * self.yard.b }
-        ensures rule { result ≡ sound_state (world_at self) state.now }
+    pub fn state_sound(&self, state: &[i32]) -> bool
+        requires room { length state.now ≡ carrier_words * self.now.yard.b }
+        ensures rule { result ≡ sound_state (world_at self.now) state.now }
     {
         (0..self.yard.b as usize).all(|i| self.ground(i).is_sound(load(state, i)))
     }
