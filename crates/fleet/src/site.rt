@@ -22,6 +22,7 @@ impl<'a> Site<'a> {
     ghost use Rattle.fleet.specs.Site.{world_at};
 
     // Where carrier i moves.
+    #[tactic(auto, using(yard::proofs::Fits::sizes_fit))]
     pub(super) fn ground(&self, i: usize) -> Ground<'a>
         requires there { i < self.now.yard.b }
         ensures free { free_on result

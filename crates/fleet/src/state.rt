@@ -15,6 +15,7 @@ impl State {
 }
 
 // Carrier i of a state.
+#[tactic(auto, unfolding(crate::specs::State::carrier))]
 pub fn load(state: &[i32], i: usize) -> Carrier
     requires there { (i < 32) × (carrier_words * i + carrier_words ≤ length state.now) }
     ensures loaded { result ≡ carrier i state.now }
@@ -30,6 +31,7 @@ pub fn load(state: &[i32], i: usize) -> Carrier
 }
 
 // Carrier i put in its place.
+#[tactic(auto, unfolding(crate::specs::State::put, crate::specs::State::words_of))]
 pub fn store(state: &mut [i32], i: usize, c: Carrier)
     requires there { (i < 32) × (carrier_words * i + carrier_words ≤ length state.old) }
     ensures stored { state.new ≡ put i c state.old }
@@ -39,6 +41,7 @@ pub fn store(state: &mut [i32], i: usize, c: Carrier)
 }
 
 // The state at the start: each carrier where the world puts it, at rest.
+#[tactic(auto, unfolding(crate::specs::State::start_to))]
 pub fn start(yard: Yard, boxes: &[i32], state: &mut [i32])
     requires room { BoxesFit yard boxes.now }
     requires words { length state.old ≡ carrier_words * yard.b }
