@@ -10,9 +10,13 @@ use lib.Signed.{mag, lt_z, non_neg}
 use mir.Syntax.{w32, w64}
 use mir.Val.{SFits, Fits}
 use mir.Facts.{Fits-nat_abs}
+use Rattle.std.proofs.lemmas.Int.{ints, clamps, to_z-of_z}
 use Rattle.basis.proofs.Tests.{never}
 pub use Rattle.basis.proofs.Signed.{read, got, mag≤abs, small, abs_add, abs_neg, abs_sub}
 use Rattle.yard.specs.Ranges.{between}
+
+-- Words read, cut and compared.
+pub ruleset words = (ints, clamps, to_z-of_z)
 
 -- The test of a word, of which the machine has its reading.
 pub test_is : (low z high : ℤ) {r : Bool} → mag z < 2 ^ 31 → r ≡ between low (read z) high

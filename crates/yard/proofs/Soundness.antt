@@ -100,6 +100,34 @@ module _ (free : ℤ → ℤ → Bool) (held : Option ℕ) (carrier : Carrier) (
       → sound_carrier free (step free held carrier) ≡ true
   step_sound e = of_good free (step free held carrier) (good_step (good_of free carrier e))
 
+-- What the parts of a step rest on, each for the next.
+pub record Stepped (free : ℤ → ℤ → Bool) (lever : ℕ) (carrier : Carrier) : Type 0 where
+  pub position : lever ≤ 9
+  pub old_u : nat_abs carrier.u ≤ 200
+  pub old_v : nat_abs carrier.v ≤ 200
+  pub new_u : nat_abs (new_speed X lever carrier.u) ≤ 200
+  pub new_v : nat_abs (new_speed Y lever carrier.v) ≤ 200
+  pub here : free carrier.x carrier.y ≡ true
+  pub there : free (slide free X (new_speed X lever carrier.u) carrier.x carrier.y).at carrier.y
+      ≡ true
+
+pub stepped : (free : ℤ → ℤ → Bool) (held : Option ℕ) (carrier : Carrier) → LeverFits held
+    → sound_carrier free carrier ≡ true
+    → Stepped free (nat_abs (lever_after held carrier.lever)) carrier
+stepped free held carrier h e =
+    let good = good_of free carrier e in
+    let lever = lever_after held carrier.lever in
+    let u = new_speed X (nat_abs lever) carrier.u in
+    record {
+      position = from_zero 9 lever (lever_holds held carrier.lever h good.lever);
+      old_u = good.u;
+      old_v = good.v;
+      new_u = speed_within X (nat_abs lever) carrier.u good.u;
+      new_v = speed_within Y (nat_abs lever) carrier.v good.v;
+      here = good.here;
+      there = slide_x_free free u carrier.x carrier.y good.here;
+    }
+
 -- A carrier at rest is sound where it is free.
 pub rest_sound : (free : ℤ → ℤ → Bool) (x y : ℤ) → free x y ≡ true
     → sound_carrier free (at_rest x y) ≡ true

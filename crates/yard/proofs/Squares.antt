@@ -1,7 +1,7 @@
 -- Laws of `free`: the covered cells decide, and they are those of the box's unit squares.
 use Prim.Native.Nat.{ℕ, ◌+◌, ◌*◌, ◌/◌, ◌<◌, ◌≤◌, max, min}
 use mathlib.Core.Path.{◌≡◌, refl, ◌∙◌}
-use mathlib.Core.Bool.{true, false, ◌&&◌}
+use mathlib.Core.Bool.{true, false, not, ◌&&◌}
 use mathlib.Core.List.{List}
 use mathlib.Core.Logic.{⊎_elim, ◌↔◌, ◌≢◌}
 use native.Mathlib.Omega.{arith}
@@ -10,12 +10,15 @@ use lib.Dec.{leb}
 use lib.IntN.{ℤ, pos, negsuc, nat_abs}
 use lib.ListN.{get_or}
 use lib.Signed.{lt_z}
+use Rattle.std.specs.Prelude.{Option, None, Some, is_some}
 use Rattle.basis.proofs.Tests.{never, and_both, and_left, and_right, not_left, not_right}
 use Rattle.yard.specs.declared.world.Yard.{Yard}
 use Rattle.yard.specs.declared.world.Size.{Size}
+use Rattle.yard.specs.declared.place.Block.{Block}
+use Rattle.yard.specs.declared.place.Cell.{Cell}
 use Rattle.yard.specs.Boxes.{CellsFit, SizeFits}
 use Rattle.yard.specs.Free.{wall, share, covers, no_wall, free}
-use Rattle.yard.specs.Search.{InBlock, Open, block_of}
+use Rattle.yard.specs.Search.{InBlock, Open, FirstInBlock, Finds, block_of}
 use Rattle.yard.specs.Facts.{Clear, FreeAt}
 use Rattle.yard.proofs.Cases.{either, not_both, both_not}
 use Rattle.yard.proofs.Every.{all_pass, passes}
@@ -121,6 +124,15 @@ module _ (yard : Yard) (cells : List ℕ) (size : Size) (x y : ℕ) where
         within
         ∙ ⊎_elim (λ p. never e (no_wall_at p column row (omega arith) (omega arith) under)) (λ p. p)
         (either (no_wall yard cells size x y))
+
+    -- What the search of the block's cells met decides.
+    pub searched : SizeFits size → (block : Block) → block ≡ block_of size x y
+        → (met : Option Cell) → Finds yard cells block met
+        → free yard cells size (pos x) (pos y) ≡ not (is_some met)
+    searched s block e None f = none_met (rw e at f)
+    searched s block e (Some cell) f =
+        let here : FirstInBlock yard cells (block_of size x y) cell.column cell.row = rw e at f in
+        wall_met s cell.column cell.row here.inside here.there
 
   -- A cell is no wall where its byte isn't 1.
   no_byte : (column row : ℕ)

@@ -9,6 +9,7 @@ use borrow.Author.Tests.{ltb-true}
 use lib.Dec.{ltb}
 use lib.IntN.{ℤ, pos, negsuc, nat_abs, ◌+ℤ◌, ◌-ℤ◌, +ℤ_idr}
 use lib.Signed.{lt_z}
+use Rattle.std.specs.Prelude.{Option, None, Some, MatchOption, unwrap_or}
 use Rattle.basis.proofs.Tests.{never}
 use Rattle.yard.specs.declared.levers.Axis.{Axis}
 use Rattle.yard.specs.declared.levers.Axis.TheVariants.{X, Y}
@@ -123,6 +124,34 @@ module _ (free : ℤ → ℤ → Bool) (axis : Axis) (speed x y : ℤ) where
 
   pub only : (units : ℕ) → Walked free axis speed x y units → units ≡ distance free axis speed x y
   only units w = omega (arith, not_less w walked, not_less walked w)
+
+  -- A search for the last unit before one that is not clear.
+  pub searched : (most : ℕ) → most ≡ nat_abs speed → (met : Option ℕ)
+      → MatchOption met
+      ((k : ℕ) → 0 ≤ k → k < most → clear_on free axis speed x y (k + 1) ≡ true)
+      (λ units.
+      (0 ≤ units) × (units < most)
+      × (clear_on free axis speed x y (units + 1) ≡ false)
+      × ((k : ℕ) → 0 ≤ k → k < units → clear_on free axis speed x y (k + 1) ≡ true))
+      → unwrap_or met most ≡ distance free axis speed x y
+  searched most e None h =
+      only most
+      (record {
+        most = omega arith;
+        passed = λ k l m.
+            let same : k - 1 + 1 ≡ k = omega arith in
+            rw same at (h (k - 1) (omega arith) (omega arith));
+        stopped = λ l. absurd (omega arith);
+      })
+  searched most e (Some units) (low, fewer, blocked, clear) =
+      only units
+      (record {
+        most = omega arith;
+        passed = λ k l m.
+            let same : k - 1 + 1 ≡ k = omega arith in
+            rw same at (clear (k - 1) (omega arith) (omega arith));
+        stopped = λ l. blocked;
+      })
 
 -- A move from a place that is free ends at one.
 pub slide_x_free : (free : ℤ → ℤ → Bool) (speed x y : ℤ) → free x y ≡ true

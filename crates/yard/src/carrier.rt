@@ -47,6 +47,7 @@ impl Ground<'_> {
     }
 
     // The state rule, for any words.
+    #[tactic(auto, using(crate::proofs::Signed::words), unfolding(crate::specs::Step::sound_carrier))]
     pub fn is_sound(&self, carrier: Carrier) -> bool
         ensures rule { result ≡ sound_carrier (free_on self.now) carrier }
     {

@@ -21,15 +21,11 @@ pub struct Cell {
     pub row: usize,
 }
 
-// The index of the first wall among the cells from..to.
-fn first_wall(cells: &[u8], from: usize, to: usize) -> Option<usize>
-    requires within { (from ≤ to) × (to ≤ length cells.now) }
-    ensures first { FirstWall cells.now from to result }
+// The index of the first wall among these cells.
+fn first_wall(cells: &[u8]) -> Option<usize>
+    ensures first { FirstWall cells.now result }
 {
-    cells[from..to]
-        .iter()
-        .position(|cell| *cell == Yard::WALL)
-        .map(|on| from + on)
+    cells.iter().position(|cell| *cell == Yard::WALL)
 }
 
 // The index of a row's first cell; the whole row lies in the yard.
@@ -63,9 +59,10 @@ impl Ground<'_> {
     {
         for row in block.top..block.bottom {
             let start = row_start(self.yard, row);
-            if let Some(i) = first_wall(self.cells, start + block.left, start + block.right) {
+            let cells = &self.cells[start + block.left..start + block.right];
+            if let Some(on) = first_wall(cells) {
                 return Some(Cell {
-                    column: i - start,
+                    column: block.left + on,
                     row,
                 });
             }
@@ -74,6 +71,14 @@ impl Ground<'_> {
     }
 
     // Free at a place that is not negative.
+    #[tactic(
+        auto,
+        using(
+            crate::proofs::Squares::past_right,
+            crate::proofs::Squares::past_bottom,
+            crate::proofs::Squares::searched
+        )
+    )]
     fn free_at(&self, x: usize, y: usize) -> bool
         requires word { (x ≤ 2 ^ 31) × (y ≤ 2 ^ 31) }
         ensures place { result ≡ free_on self.now (pos x) (pos y) }
@@ -84,6 +89,10 @@ impl Ground<'_> {
     }
 
     // Whether the carrier is free at (x, y), for any words.
+    #[tactic(
+        auto,
+        using(crate::proofs::Squares::below_left, crate::proofs::Squares::below_above)
+    )]
     pub fn is_free(&self, x: i32, y: i32) -> bool
         ensures place { result ≡ free_on self.now x y }
     {

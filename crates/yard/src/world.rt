@@ -24,10 +24,10 @@ impl Yard {
 // 'for each carrier x, y, w, h in that order'.
 #[derive(Clone, Copy)]
 pub enum Word {
-    X = 0,
-    Y = 1,
-    W = 2,
-    H = 3,
+    X,
+    Y,
+    W,
+    H,
 }
 
 impl Word {
@@ -55,6 +55,7 @@ impl Size {
     pub const MOST: i32 = 1_024;
 
     // The size of carrier i.
+    #[tactic(auto, using(crate::proofs::Signed::words), unfolding(crate::specs::Boxes::size_of))]
     pub fn at(boxes: &[i32], i: usize) -> Self
         requires room { (i < 32) × (4 * i + 4 ≤ length boxes.now) }
         ensures size { result ≡ size_of boxes.now i }
