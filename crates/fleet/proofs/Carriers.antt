@@ -13,8 +13,9 @@ use lib.Dec.{eqb, ltb}
 use borrow.Author.Tests.{eqb-true, eqb-false, ltb-true, ltb-false}
 use Rattle.basis.proofs.Lists.{paste_at, paste_before, paste_after}
 use Rattle.record.specs.Buffer.{lever_at}
+use Rattle.record.specs.Log.{records_of}
 use Rattle.record.specs.declared.bytes.Record.{Record}
-use Rattle.record.proofs.Logs.{AllWithin, done, more}
+use Rattle.record.proofs.Logs.{AllWithin, done, more, all_within}
 use Rattle.yard.specs.declared.carrier.Carrier.{Carrier}
 use Rattle.yard.specs.Boxes.{size_of}
 use Rattle.yard.specs.Free.{free}
@@ -25,7 +26,7 @@ use Rattle.yard.proofs.Soundness.{good_of, of_good, rule, step_sound}
 use Rattle.fleet.specs.State.{World, carrier_words, carrier, words_of, put, free_for, sound_state}
 use Rattle.fleet.specs.Step.{step_one, step_to, step_all, step_at}
 use Rattle.fleet.specs.Facts.{CarrierSound, StateSound}
-use Rattle.fleet.specs.Fits.{StateFits}
+use Rattle.fleet.specs.Fits.{LogFits, StateFits}
 use Rattle.fleet.specs.Statements.{EachFree}
 use Rattle.fleet.proofs.Words.{same_words, carrier_is, length_put}
 
@@ -182,3 +183,15 @@ pub step_keeps : {carriers : ℕ} {l : List Record} (world : World) (t : ℕ) (s
     → AllWithin carriers l → StateFits world state → StateFits world (step_at world l t state)
 step_keeps {l = l} world t state a s =
     all_keeps world (λ i. lever_at t i l) (λ i. lever_fits t i a) state s
+
+-- A log that fits holds levers 0 to 9, and a step under it keeps the state rule.
+module _ {world : World} {log : List ℕ} (fits : LogFits world log) where
+  abbrev pub within : AllWithin world.yard.b (records_of log)
+  within = all_within world.yard.b _ log fits.unrefused
+
+  pub log_lever : (t i : ℕ) → LeverFits (lever_at t i (records_of log))
+  log_lever t i = lever_fits t i within
+
+  pub log_step : (t : ℕ) (state : List ℤ) → StateFits world state
+      → StateFits world (step_at world (records_of log) t state)
+  log_step t state s = step_keeps world t state within s
