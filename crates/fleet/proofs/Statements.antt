@@ -51,8 +51,8 @@ one_step =
       same = same_all;
       stays = λ world levers state fits s. all_keeps world levers fits state s;
       log =
-          λ world held log t state l s.
-          step_keeps world t state (all_within _ held log l.unrefused) s;
+          λ world log t state l s.
+          step_keeps world t state (all_within _ _ log l.unrefused) s;
     }
 
 pub runs : Runs
@@ -62,8 +62,8 @@ runs =
       joined_saving = saving_joined;
       state = saving_state;
       stays =
-          λ world held log t k state l s.
-          run_keeps world _ t k state (all_within _ held log l.unrefused) s;
+          λ world log t k state l s.
+          run_keeps world _ t k state (all_within _ _ log l.unrefused) s;
       same = same_run;
       same_saving = saving_same;
     }
