@@ -26,6 +26,11 @@ fn lever_after(held: Option<u8>, lever: i32) -> i32
 
 impl Ground<'_> {
     // One step of a sound carrier.
+    #[tactic(
+        auto,
+        using(crate::proofs::Signed::words, crate::proofs::Soundness::stepped),
+        unfolding(crate::specs::Step::step)
+    )]
     pub fn step(&self, held: Option<u8>, carrier: Carrier) -> Carrier
         requires table { LeverFits held }
         requires sound { sound_carrier (free_on self.now) carrier ≡ true }

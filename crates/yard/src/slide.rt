@@ -53,6 +53,7 @@ impl Ground<'_> {
     }
 
     // The move along the axis of a carrier that stands free at (x, y).
+    #[tactic(auto, using(crate::proofs::Signed::words), unfolding(crate::specs::Slide::slide))]
     pub(super) fn slide(&self, axis: Axis, speed: i32, x: i32, y: i32) -> Moved
         requires slow { nat_abs speed ≤ 200 }
         requires stands { free_on self.now x y ≡ true }
