@@ -65,13 +65,14 @@ all_functions = [(path, *f) for path in sources for f in functions(path)]
 
 # 1. Own enums of the shape of Option or Result, a value beside its flag, numbers for kinds.
 for path in sources:
-    lines = code_of(path)
+    lines, owner = code_of(path), ""
     for i, line in enumerate(lines):
+        owner = (re.findall(r"^impl (\w+)", line) or [owner])[0]
         if re.match(r"^    (Refused\(u8\)|Nothing|Failed|Differ),?$", line):
             place(1, path, i + 1, "a variant for a refusal or for nothing: " + line.strip())
         if re.match(r"^    (pub )?(outcome|answer): [A-Z]\w+,$", line):
             place(1, path, i + 1, "an outcome with a value beside it: " + line.strip())
-        if re.match(r"^\s+(pub )?const [A-Z]+: u(8|32) = [0-9]+;$", line):
+        if owner in ("Number", "Kind", "Face") and re.match(r"^\s+(pub )?const [A-Z]+: u(8|32) =", line):
             place(1, path, i + 1, "a number for a kind: " + line.strip())
 
 # 2. Functions whose bodies are the same but for names, types and numbers.
@@ -94,12 +95,14 @@ for group in bodies.values():
         path, line, _ = group[0]
         place(2, path, line, "the same body: " + ", ".join(n for _, _, n in group))
 
-# 3. Loops that count an index by hand.
+# 3. Loops that count an index by hand, or that take a slice's items by a range.
 for path in sources:
-    for i, line in enumerate(code_of(path)):
+    lines = code_of(path)
+    for i, line in enumerate(lines):
+        ranged = re.search(r"\bfor (\w+) in [\w.() ]+\.\.", line)
         if re.search(r"\b(while|loop)\b", line):
             place(3, path, i + 1, line.strip())
-        elif re.search(r"\bfor \w+ in [\w.() ]+\.\.", line):
+        elif ranged and any(f"[{ranged[1]}]" in below for below in lines[i + 1 : i + 4]):
             place(3, path, i + 1, line.strip())
 
 # 4. Conversion and printing by hand.
@@ -122,9 +125,9 @@ for path, name, line, params, clauses, body in all_functions:
     for clause in re.findall(r"requires(?: \w+)? \{([^}]*)\}", clauses):
         for fact in re.split(r"\) × \(", re.sub(r"\s+", " ", clause).strip(" ()")):
             facts[fact].append((path, line, name))
-    plain = [p for p, _ in params]
+    plain = [p for p, _ in params if p != "rt"]
     for a in range(len(plain)):
-        for b in range(a + 2, len(plain) + 1):
+        for b in range(a + 3, len(plain) + 1):
             groups[tuple(plain[a:b])].append((path, line, name))
 for fact, where in facts.items():
     if len(where) >= 3:
@@ -140,7 +143,7 @@ for path, name, line, params, clauses, body in all_functions:
     types = dict(params)
     slices = [p for p, t in types.items() if t.strip().startswith(("&[", "&mut [", "["))]
     for count in ("held", "count"):
-        if count in types and slices:
+        if types.get(count, "").strip() == "usize" and slices:
             place(6, path, line, f"{name}: {count} beside {', '.join(slices)}")
     for p in ("name", "label", "title", "kind"):
         if types.get(p, "").strip() == "&[u8]":
