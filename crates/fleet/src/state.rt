@@ -1,6 +1,7 @@
 // The state words of all carriers.
 
 ghost use Rattle.std.specs.Prelude.{◌≡◌, ◌+◌, ◌*◌, ◌≤◌, ◌<◌, length};
+ghost use Rattle.basis.specs.Numbers.{most_carriers};
 ghost use Rattle.fleet.specs.State.{carrier, carrier_words, put, start_to};
 ghost use Rattle.yard.specs.Boxes.{BoxesFit};
 
@@ -17,7 +18,7 @@ impl State {
 // Carrier i of a state.
 #[tactic(auto, unfolding(crate::specs::State::carrier))]
 pub fn load(state: &[i32], i: usize) -> Carrier
-    requires there { (i < 32) × (carrier_words * i + carrier_words ≤ length state.now) }
+    requires there { (i < most_carriers) × (carrier_words * i + carrier_words ≤ length state.now) }
     ensures loaded { result ≡ carrier i state.now }
 {
     let at = State::WORDS * i;
@@ -32,7 +33,7 @@ pub fn load(state: &[i32], i: usize) -> Carrier
 
 // Carrier i put in its place.
 pub fn store(state: &mut [i32], i: usize, c: Carrier)
-    requires there { (i < 32) × (carrier_words * i + carrier_words ≤ length state.old) }
+    requires there { (i < most_carriers) × (carrier_words * i + carrier_words ≤ length state.old) }
     ensures stored { state.new ≡ put i c state.old }
 {
     let at = State::WORDS * i;
