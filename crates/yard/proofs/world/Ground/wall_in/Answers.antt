@@ -48,7 +48,8 @@ returns-in-Some c =
             rows = λ column row h l. passed.invariant.2 column row (omega arith);
             columns = λ column h l.
                 let i = column - a.block.left in
-                column_is _ passed.row column i c.row.ensures.cells (omega arith) h.right (omega arith)
+                column_is _ passed.row column i c.row.ensures.cells (omega arith) h.right
+                (omega arith)
                 ∙ first.2 i (omega arith);
           };
     }
