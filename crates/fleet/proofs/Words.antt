@@ -2,12 +2,13 @@
 use Prim.Native.Nat.{ℕ, zero, suc, ◌+◌, ◌*◌, ◌/◌, ◌%◌, ◌<◌, ◌≤◌}
 use mathlib.Core.Path.{◌≡◌, refl, sym, ap, ◌∙◌}
 use mathlib.Core.List.{List, ◌++◌}
-use native.Mathlib.Nat.{zero-add}
+use native.Mathlib.Nat.{add-zero, zero-add}
 use native.Mathlib.Numerals.{add-one}
 use native.Mathlib.Omega.{arith}
 use lib.IntN.{ℤ, pos}
-use lib.ListN.{length, get_or, drop, length-append}
+use lib.ListN.{length, get_or, set, drop, length-append}
 use lib.Seq.{ext_get_or, length-paste, take_at, drop-append-add, drop-drop}
+use Rattle.basis.proofs.Lists.{stored_all}
 use Rattle.yard.specs.Boxes.{word}
 use Rattle.yard.specs.Step.{at_rest}
 use Rattle.yard.specs.declared.carrier.Carrier.{Carrier}
@@ -60,6 +61,17 @@ only_carriers b state other e q same =
     (sym (words_back i k state l)
     ∙ ap (λ (c : Carrier). get_or (words_of c) k (pos 0)) (same i (omega arith))
     ∙ words_back i k other l))
+
+-- One word after the other is the carrier put in its place.
+pub put_words : (i : ℕ) (c : Carrier) (state : List ℤ)
+    → carrier_words * i + carrier_words ≤ length state
+    → let at = carrier_words * i in
+    set (set (set (set (set state at c.x) (at + 1) c.y) (at + 2) c.u) (at + 3) c.v)
+    (at + 4) c.lever
+    ≡ put i c state
+unfolding put words_of
+put_words i c state h =
+    rw (add-zero (carrier_words * i)) at (stored_all state (carrier_words * i) (words_of c) h)
 
 pub length_put : (i : ℕ) (c : Carrier) (state : List ℤ)
     → carrier_words * i + carrier_words ≤ length state

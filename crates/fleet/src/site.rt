@@ -1,4 +1,4 @@
-// A world's yard with the cells and boxes that are lent of it, and the state rule.
+// What is lent of a world: where each of its carriers moves, and the state rule.
 
 ghost use Rattle.std.specs.Prelude.{◌≡◌, ◌*◌, ◌<◌, length};
 ghost use Rattle.yard.specs.Boxes.{size_of};

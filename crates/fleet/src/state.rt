@@ -1,6 +1,7 @@
 // The state words of all carriers.
 
 ghost use Rattle.std.specs.Prelude.{◌≡◌, ◌+◌, ◌*◌, ◌≤◌, ◌<◌, length};
+ghost use Rattle.basis.specs.Numbers.{most_carriers};
 ghost use Rattle.fleet.specs.State.{carrier, carrier_words, put, start_to};
 ghost use Rattle.yard.specs.Boxes.{BoxesFit};
 
@@ -17,7 +18,7 @@ impl State {
 // Carrier i of a state.
 #[tactic(auto, unfolding(crate::specs::State::carrier))]
 pub fn load(state: &[i32], i: usize) -> Carrier
-    requires there { (i < 32) × (carrier_words * i + carrier_words ≤ length state.now) }
+    requires there { (i < most_carriers) × (carrier_words * i + carrier_words ≤ length state.now) }
     ensures loaded { result ≡ carrier i state.now }
 {
     let at = State::WORDS * i;
@@ -31,13 +32,17 @@ pub fn load(state: &[i32], i: usize) -> Carrier
 }
 
 // Carrier i put in its place.
-#[tactic(auto, unfolding(crate::specs::State::put, crate::specs::State::words_of))]
 pub fn store(state: &mut [i32], i: usize, c: Carrier)
-    requires there { (i < 32) × (carrier_words * i + carrier_words ≤ length state.old) }
+    requires there { (i < most_carriers) × (carrier_words * i + carrier_words ≤ length state.old) }
     ensures stored { state.new ≡ put i c state.old }
 {
     let at = State::WORDS * i;
-    state[at..at + State::WORDS].copy_from_slice(&[c.x, c.y, c.u, c.v, c.lever]);
+    // Word by word: a copy from an array would first be written to the stack.
+    state[at] = c.x;
+    state[at + 1] = c.y;
+    state[at + 2] = c.u;
+    state[at + 3] = c.v;
+    state[at + 4] = c.lever;
 }
 
 // The state at the start: each carrier where the world puts it, at rest.

@@ -51,7 +51,7 @@ module _ (test : ℕ → Bool) where
       → (every n test ≡ true) ↔ ((k : ℕ) → k < n → P k)
   each n f = (λ e k l. (f k).0 (passes n e k l), λ g. all_pass n (λ k l. (f k).1 (g k l)))
 
--- A call of `all` over a list, and over the numbers below n.
+-- Tests are the same where each passes if the other does.
 same : (a b : Bool) → (a ≡ true → b ≡ true) → (b ≡ true → a ≡ true) → a ≡ b
 same true b f g = sym (f refl)
 same false true f g = never (g refl) refl
@@ -63,6 +63,7 @@ list_passes test [] h = refl
 list_passes test (a ∷ list) h =
     and_both (h 0 (omega arith)) (list_passes test list (λ k l. h (suc k) (omega arith)))
 
+-- What a call of `all` comes to, over a list and over the numbers below n.
 pub over_list : (test : ℕ → Bool) (list : List ℕ)
     → list_all test list ≡ every (length list) (λ k. test (get_or list k 0))
 over_list test list =
@@ -83,5 +84,6 @@ over_range test n =
     ∙ rw length-range_with_len
     (every_same _ test n
     (λ k l.
-    let same : get_or (range_with_len 0 n) k 0 ≡ k = omega (arith, get_or-range_with_len 0 n k 0 l) in
-    ap test same))
+    let here : get_or (range_with_len 0 n) k 0 ≡ k =
+    omega (arith, get_or-range_with_len 0 n k 0 l) in
+    ap test here))

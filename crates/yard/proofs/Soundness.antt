@@ -18,6 +18,7 @@ use Rattle.yard.specs.Slide.{slide}
 use Rattle.yard.specs.Step.{lever_after, LeverFits, at_rest, step, sound_carrier}
 use Rattle.yard.specs.Facts.{FromTo}
 use Rattle.yard.proofs.Fits.{from_to}
+use Rattle.yard.proofs.Signed.{words}
 use Rattle.yard.proofs.Limits.{speed_within}
 use Rattle.yard.proofs.Walk.{slide_within, slide_x_free, slide_y_free}
 
@@ -31,7 +32,7 @@ either_way b (negsuc n) = (
   λ h. and_both (le-leb n b (omega arith)) refl,
 )
 
-pub from_zero : (b : ℕ) (z : ℤ) → between (pos 0) z (pos b) ≡ true → nat_abs z ≤ b
+from_zero : (b : ℕ) (z : ℤ) → between (pos 0) z (pos b) ≡ true → nat_abs z ≤ b
 from_zero b z e = let (n, same, low, high) = (from_to 0 b z).0 e in rw same high
 
 zero_to : (b n : ℕ) → n ≤ b → between (pos 0) (pos n) (pos b) ≡ true
@@ -71,7 +72,7 @@ module _ (free : ℤ → ℤ → Bool) (carrier : Carrier) where
   of_good g = (lever_decides Iff.rfl).1 (g.here, g.u, g.v, g.lever)
 
 -- Part 1 leaves a lever 0 to 9.
-pub lever_holds : (held : Option ℕ) (lever : ℤ) → LeverFits held
+lever_holds : (held : Option ℕ) (lever : ℤ) → LeverFits held
     → between (pos 0) lever (pos 9) ≡ true
     → between (pos 0) (lever_after held lever) (pos 9) ≡ true
 lever_holds None lever h e = e
@@ -127,6 +128,8 @@ stepped free held carrier h e =
       here = good.here;
       there = slide_x_free free u carrier.x carrier.y good.here;
     }
+
+pub ruleset steps = (words, stepped)
 
 -- A carrier at rest is sound where it is free.
 pub rest_sound : (free : ℤ → ℤ → Bool) (x y : ℤ) → free x y ≡ true

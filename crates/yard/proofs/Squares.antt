@@ -113,11 +113,11 @@ module _ (yard : Yard) (cells : List ℕ) (size : Size) (x y : ℕ) where
           le-leb (y + size.h) (256 * yard.h) bottom,
         )
 
-    pub none_met : Open yard cells (block_of size x y)
+    none_met : Open yard cells (block_of size x y)
         → free yard cells size (pos x) (pos y) ≡ true
     none_met h = within ∙ no_wall_is (λ column row e. h column row (covered size x y column row e))
 
-    pub wall_met : SizeFits size → (column row : ℕ) → InBlock (block_of size x y) column row
+    wall_met : SizeFits size → (column row : ℕ) → InBlock (block_of size x y) column row
         → wall yard cells column row ≡ true → free yard cells size (pos x) (pos y) ≡ false
     wall_met s column row h e =
         let under = in_block size x y s column row h in
@@ -198,3 +198,8 @@ module _ (yard : Yard) (cells : List ℕ) (size : Size) where
   near (pos x) (pos y) fit e = let h = inside yard cells size x y e in (omega arith, omega arith)
   near (pos x) (negsuc y) fit e = never e (above (pos x) y)
   near (negsuc x) y fit e = never e (left x y)
+
+-- What decides at a place that is not negative, and at any place.
+pub ruleset edges = (past_right, past_bottom, searched)
+
+pub ruleset signs = (below_left, below_above)

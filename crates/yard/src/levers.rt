@@ -62,7 +62,7 @@ fn push_of(lever: usize) -> Push
 }
 
 // 'old speed plus push, then cut'.
-#[tactic(auto, using(crate::proofs::Signed::words), unfolding(crate::specs::Levers::cut_speed))]
+#[tactic(auto, unfolding(crate::specs::Levers::cut_speed))]
 fn pushed_speed(old: i32, push: i32) -> i32
     requires small { (nat_abs old ≤ 200) × (nat_abs push ≤ 12) }
     ensures cut { result ≡ cut_speed (old +ℤ push) }
@@ -71,7 +71,7 @@ fn pushed_speed(old: i32, push: i32) -> i32
 }
 
 // Lever 9: 'toward zero, and never past it' (02 §2).
-#[tactic(auto, using(crate::proofs::Signed::words), unfolding(crate::specs::Levers::brake))]
+#[tactic(auto, unfolding(crate::specs::Levers::brake))]
 fn brake_speed(old: i32) -> i32
     requires small { nat_abs old ≤ 200 }
     ensures braked { result ≡ brake old }
@@ -80,11 +80,7 @@ fn brake_speed(old: i32) -> i32
 }
 
 // Part 2, along one axis.
-#[tactic(
-    auto,
-    using(crate::proofs::Signed::words, crate::proofs::Limits::push_within),
-    unfolding(crate::specs::Levers::new_speed)
-)]
+#[tactic(auto, using(crate::proofs::Limits::speeds), unfolding(crate::specs::Levers::new_speed))]
 pub fn new_speed(axis: Axis, lever: usize, old: i32) -> i32
     requires sound { (lever ≤ 9) × (nat_abs old ≤ 200) }
     ensures part { result ≡ new_speed axis lever old }

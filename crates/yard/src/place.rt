@@ -69,14 +69,7 @@ impl Ground<'_> {
     }
 
     // Free at a place that is not negative.
-    #[tactic(
-        auto,
-        using(
-            crate::proofs::Squares::past_right,
-            crate::proofs::Squares::past_bottom,
-            crate::proofs::Squares::searched
-        )
-    )]
+    #[tactic(auto, using(crate::proofs::Squares::edges))]
     fn free_at(&self, x: usize, y: usize) -> bool
         requires word { (x ≤ 2 ^ 31) × (y ≤ 2 ^ 31) }
         ensures place { result ≡ free_on self.now (pos x) (pos y) }
@@ -87,10 +80,7 @@ impl Ground<'_> {
     }
 
     // Whether the carrier is free at (x, y), for any words.
-    #[tactic(
-        auto,
-        using(crate::proofs::Squares::below_left, crate::proofs::Squares::below_above)
-    )]
+    #[tactic(auto, using(crate::proofs::Squares::signs))]
     pub fn is_free(&self, x: i32, y: i32) -> bool
         ensures place { result ≡ free_on self.now x y }
     {

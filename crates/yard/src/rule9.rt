@@ -32,7 +32,7 @@ pub fn cells_hold(cells: &[u8]) -> bool
     cells.iter().all(|cell| *cell <= Yard::WALL)
 }
 
-#[tactic(auto, using(crate::proofs::Signed::words), unfolding(crate::specs::Rule9::size_holds))]
+#[tactic(auto, unfolding(crate::specs::Rule9::size_holds))]
 fn size_holds(boxes: &[i32], i: usize) -> bool
     requires room { (i < 32) × (4 * i + 4 ≤ length boxes.now) }
     ensures size { result ≡ size_holds boxes.now i }
@@ -49,7 +49,7 @@ pub fn sizes_hold(yard: Yard, boxes: &[i32]) -> bool
     (0..yard.b as usize).all(|i| size_holds(boxes, i))
 }
 
-#[tactic(auto, using(crate::proofs::Signed::words), unfolding(crate::specs::Rule9::start_holds))]
+#[tactic(auto, unfolding(crate::specs::Rule9::start_holds))]
 fn start_holds(yard: Yard, cells: &[u8], boxes: &[i32], i: usize) -> bool
     requires laid { CellsFit yard cells.now }
     requires room { (i < 32) × (4 * i + 4 ≤ length boxes.now) }

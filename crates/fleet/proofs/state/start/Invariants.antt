@@ -1,7 +1,7 @@
-use Prim.Native.Nat.{◌≤◌, ◌*◌}
+use Prim.Native.Nat.{◌*◌}
 use mathlib.Core.List.{◌++◌}
 use mathlib.Core.Path.{◌≡◌}
-use lib.ListN.{length, drop}
+use lib.ListN.{drop}
 use Rattle.fleet.specs.State.{start_to, carrier_words}
 use Rattle.fleet.proofs.state.start.Given as goal
 

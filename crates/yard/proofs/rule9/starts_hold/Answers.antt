@@ -10,7 +10,9 @@ use Rattle.yard.proofs.Fits.{sizes_fit}
 use Rattle.yard.proofs.rule9.starts_hold.Goals as goal
 
 pub all-requires-clause-callable : goal.all-requires-clause-callable
-all-requires-clause-callable c = serves_from_Range (λ x q k. search rules) (λ x l h. let fit = sizes_fit _ _ c.requires.sized x h in search rules)
+all-requires-clause-callable c =
+    serves_from_Range (λ x q k. search rules)
+    (λ x l h. let fit = sizes_fit _ _ c.requires.sized x h in search rules)
 
 pub returns : goal.returns
 unfolding starts_hold

@@ -6,9 +6,8 @@ use mathlib.Core.List.{List}
 use mathlib.Core.Logic.{⊎_elim}
 use native.Mathlib.Nat.{eq-or-lt_of_le}
 use native.Mathlib.Omega.{arith}
-use borrow.Author.Rules.{rules}
 use lib.Dec.{eqb}
-use lib.ListN.{get_or, take, drop, length}
+use lib.ListN.{get_or, take, drop}
 use Rattle.std.proofs.lemmas.List.{get_or-take, get_or-drop, length-take, length-drop}
 use Rattle.yard.specs.declared.world.Yard.{Yard}
 use Rattle.yard.specs.Free.{wall_at, wall}
@@ -49,7 +48,8 @@ returns-in-Some c =
             rows = λ column row h l. passed.invariant.2 column row (omega arith);
             columns = λ column h l.
                 let i = column - a.block.left in
-                column_is _ passed.row column i c.row.ensures.cells (omega arith) h.right (omega arith)
+                column_is _ passed.row column i c.row.ensures.cells (omega arith) h.right
+                (omega arith)
                 ∙ first.2 i (omega arith);
           };
     }

@@ -1,4 +1,4 @@
-use Prim.Native.Nat.{ℕ, ◌-◌, ◌≤◌}
+use Prim.Native.Nat.{ℕ, ◌≤◌}
 use Rattle.yard.specs.declared.place.Block.{Block}
 use Rattle.yard.specs.Search.{Open}
 use Rattle.yard.proofs.world.Ground.wall_in.Given as goal
