@@ -8,8 +8,7 @@ use native.Mathlib.Omega.{arith}
 use borrow.Author.Tests.{leb-true, le-leb}
 use lib.Dec.{leb}
 use lib.IntN.{ℤ, pos, negsuc, nat_abs}
-use Rattle.basis.specs.declared.HeldLever.{HeldLever}
-use Rattle.basis.specs.declared.HeldLever.TheVariants.{Nothing, Lever}
+use Rattle.std.specs.Prelude.{Option, None, Some}
 use Rattle.basis.proofs.Tests.{and_both, and_left, says_le, says_four}
 use Rattle.yard.specs.declared.carrier.Carrier.{Carrier}
 use Rattle.yard.specs.declared.levers.Axis.TheVariants.{X, Y}
@@ -72,14 +71,14 @@ module _ (free : ℤ → ℤ → Bool) (carrier : Carrier) where
   of_good g = (lever_decides Iff.rfl).1 (g.here, g.u, g.v, g.lever)
 
 -- Part 1 leaves a lever 0 to 9.
-pub lever_holds : (held : HeldLever) (lever : ℤ) → LeverFits held
+pub lever_holds : (held : Option ℕ) (lever : ℤ) → LeverFits held
     → between (pos 0) lever (pos 9) ≡ true
     → between (pos 0) (lever_after held lever) (pos 9) ≡ true
-lever_holds Nothing lever h e = e
-lever_holds (Lever moved) lever h e = zero_to 9 moved h
+lever_holds None lever h e = e
+lever_holds (Some moved) lever h e = zero_to 9 moved h
 
 -- A sound carrier stays sound.
-module _ (free : ℤ → ℤ → Bool) (held : HeldLever) (carrier : Carrier) (h : LeverFits held) where
+module _ (free : ℤ → ℤ → Bool) (held : Option ℕ) (carrier : Carrier) (h : LeverFits held) where
   good_step : Good free carrier → Good free (step free held carrier)
   unfolding step
   good_step g =
@@ -110,6 +109,6 @@ rest_sound free x y h =
 
 -- Which places are free is all that a step asks.
 pub step_same : (free other : ℤ → ℤ → Bool) → ((x y : ℤ) → free x y ≡ other x y)
-    → (held : HeldLever) (carrier : Carrier) → step free held carrier ≡ step other held carrier
+    → (held : Option ℕ) (carrier : Carrier) → step free held carrier ≡ step other held carrier
 step_same free other h held carrier =
     ap (λ f. step f held carrier) (fun_ext (λ x. fun_ext (h x)))

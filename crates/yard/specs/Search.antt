@@ -1,18 +1,26 @@
 -- What the search of the covered cells answers: for contracts of parts only, no promise of its own.
-use Rattle.std.specs.Prelude.{ℕ, ◌+◌, ◌-◌, ◌/◌, ◌≤◌, ◌<◌, ◌≡◌, true, false, List}
+use Rattle.std.specs.Prelude.{ℕ, ◌+◌, ◌-◌, ◌/◌, ◌≤◌, ◌<◌, ◌≡◌, true, false, Option, None, Some, List}
 use Rattle.yard.specs.declared.world.Yard.{Yard}
 use Rattle.yard.specs.declared.world.Size.{Size}
 use Rattle.yard.specs.declared.place.Block.{Block}
-use Rattle.yard.specs.declared.place.Met.{Met}
-use Rattle.yard.specs.declared.place.Met.TheVariants.{Nothing, Wall}
+use Rattle.yard.specs.declared.place.Cell.{Cell}
 use Rattle.yard.specs.Free.{wall_at, wall}
 
--- The first wall among the cells from..to, or to.
-pub record FirstWall (cells : List ℕ) (from to found : ℕ) : Type 0 where
+-- No cell from..to is a wall.
+abbrev pub NoWall : List ℕ → ℕ → ℕ → Type 0
+NoWall cells from to = (i : ℕ) → i < to → from ≤ i → wall_at cells i ≡ false
+
+-- The first wall among the cells from..to.
+pub record WallFirst (cells : List ℕ) (from to found : ℕ) : Type 0 where
   pub low : from ≤ found
-  pub high : found ≤ to
-  pub earlier : (i : ℕ) → i < found → from ≤ i → wall_at cells i ≡ false
-  pub there : found < to → wall_at cells found ≡ true
+  pub high : found < to
+  pub earlier : NoWall cells from found
+  pub there : wall_at cells found ≡ true
+
+-- What a search of the cells from..to answers.
+abbrev pub FirstWall : List ℕ → ℕ → ℕ → Option ℕ → Type 0
+FirstWall cells from to None = NoWall cells from to
+FirstWall cells from to (Some found) = WallFirst cells from to found
 
 -- The cells under the box at (x, y).
 abbrev pub block_of : Size → ℕ → ℕ → Block
@@ -45,6 +53,6 @@ pub record FirstInBlock (yard : Yard) (cells : List ℕ) (block : Block) (column
   pub columns : (c : ℕ) → InBlock block c row → c < column → wall yard cells c row ≡ false
 
 -- What a search of the block answers.
-abbrev pub Finds : Yard → List ℕ → Block → Met → Type 0
-Finds yard cells block Nothing = Open yard cells block
-Finds yard cells block (Wall column row) = FirstInBlock yard cells block column row
+abbrev pub Finds : Yard → List ℕ → Block → Option Cell → Type 0
+Finds yard cells block None = Open yard cells block
+Finds yard cells block (Some cell) = FirstInBlock yard cells block cell.column cell.row
