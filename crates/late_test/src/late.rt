@@ -88,11 +88,11 @@ fn full(rt: &impl Print) -> io::Result<()> {
 fn filled(opened: Practised) -> Practised {
     let mut k = opened;
     for step in 100..2_148 {
-        k = k.put(Record {
+        let _ = k.hand(&record::bytes_of(Record {
             step,
             carrier: 0,
             lever: (step % 10) as u8,
-        });
+        }));
     }
     k
 }

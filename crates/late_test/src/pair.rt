@@ -35,7 +35,8 @@ fn twelve(rt: &impl Print) -> io::Result<Pair> {
 }
 
 fn open(rt: &impl Print) -> io::Result<Pair> {
-    let (k, answer) = Pair::sevens(YARD, &BOXES).opened(YARD, 0, &Practice::CELLS, &BOXES);
+    let mut k = Pair::sevens(YARD, &BOXES);
+    let answer = k.open_on(YARD, 0, &Practice::CELLS, &BOXES);
     print!(rt; "open two carriers at 0")?;
     say::running(rt, answer)?;
     println!(rt)?;
@@ -43,7 +44,8 @@ fn open(rt: &impl Print) -> io::Result<Pair> {
 }
 
 fn reading(rt: &impl Print, k: Pair, reading: u64) -> io::Result<Pair> {
-    let (left, answer) = k.read(reading);
+    let mut left = k;
+    let answer = left.read(reading);
     print!(rt; "reading {reading}")?;
     say::running(rt, answer)?;
     println!(rt)?;
@@ -56,7 +58,8 @@ fn deliver(rt: &impl Print, k: Pair, step: u32, carrier: u8, lever: u8) -> io::R
         carrier,
         lever,
     };
-    let (left, answer) = k.handed(&record::bytes_of(r));
+    let mut left = k;
+    let answer = left.hand(&record::bytes_of(r));
     say::record(rt, r)?;
     say::delivered(rt, answer)?;
     println!(rt)?;

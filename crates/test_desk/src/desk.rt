@@ -4,7 +4,7 @@ use basis::Refusal;
 use clock::Clock;
 use digest::Digest;
 use fleet::Practice;
-use record::{Buffer, Record};
+use record::Buffer;
 use session::{Buffers, Delivered, Session};
 use std::io;
 use yard::Yard;
@@ -46,13 +46,13 @@ impl<const WORDS: usize, const ROWS: usize> Desk<WORDS, ROWS> {
     }
 
     // Opening of any world on the buffers as they are; after a refusal the session is the one before.
-    pub fn opened(
-        mut self,
+    pub fn open_on(
+        &mut self,
         yard: Yard,
         first: u64,
         cells: &[u8],
         boxes: &[i32],
-    ) -> (Self, Result<Session, Refusal>) {
+    ) -> Result<Session, Refusal> {
         let answer = Session::open(
             yard,
             first,
@@ -63,10 +63,10 @@ impl<const WORDS: usize, const ROWS: usize> Desk<WORDS, ROWS> {
             &mut self.log,
         );
         self.session = answer.unwrap_or(self.session);
-        (self, answer)
+        answer
     }
 
-    pub fn read(mut self, reading: u64) -> (Self, Result<Session, Refusal>) {
+    pub fn read(&mut self, reading: u64) -> Result<Session, Refusal> {
         let answer = self.session.reading(
             reading,
             &Practice::CELLS,
@@ -76,10 +76,10 @@ impl<const WORDS: usize, const ROWS: usize> Desk<WORDS, ROWS> {
             &self.log,
         );
         self.session = answer.unwrap_or(self.session);
-        (self, answer)
+        answer
     }
 
-    pub fn handed(mut self, bytes: &[u8]) -> (Self, Result<Delivered, Refusal>) {
+    pub fn hand(&mut self, bytes: &[u8]) -> Result<Delivered, Refusal> {
         let answer = self.session.deliver(
             bytes,
             &Practice::CELLS,
@@ -91,12 +91,7 @@ impl<const WORDS: usize, const ROWS: usize> Desk<WORDS, ROWS> {
         if let Ok(Delivered::Taken(session) | Delivered::Held(session)) = answer {
             self.session = session;
         }
-        (self, answer)
-    }
-
-    // A delivery with no line.
-    pub fn put(self, r: Record) -> Self {
-        self.handed(&record::bytes_of(r)).0
+        answer
     }
 
     // One number of all lent bytes and words that a call may change.

@@ -1,7 +1,7 @@
 // The practice yard's one carrier, and a line for each call.
 use super::desk::Desk;
 use super::say;
-use basis::Refusal;
+use basis::Limit;
 use digest::Digest;
 use fleet::{Practice, Rows, State};
 use record::Record;
@@ -37,14 +37,16 @@ impl Practised {
         cells: &[u8],
         boxes: &[i32],
     ) -> io::Result<Self> {
-        let (left, answer) = self.opened(yard, first, cells, boxes);
+        let mut left = self;
+        let answer = left.open_on(yard, first, cells, boxes);
         say::running(rt, answer)?;
         say::ended(rt, self.whole(), left.whole())?;
         Ok(left)
     }
 
     pub fn reading(self, rt: &impl Print, reading: u64) -> io::Result<Self> {
-        let (left, answer) = self.read(reading);
+        let mut left = self;
+        let answer = left.read(reading);
         print!(rt; "reading {reading}")?;
         say::running(rt, answer)?;
         say::ended(rt, self.whole(), left.whole())?;
@@ -54,15 +56,16 @@ impl Practised {
     // 100 steps made; a line for the last reading alone.
     pub fn hundred(self, rt: &impl Print) -> io::Result<Self> {
         let mut k = self;
-        for quarter in 1..8 {
-            k = k.read(250_000 * quarter).0;
+        for quarters in 1..8 {
+            let _ = k.read(250_000 * quarters);
         }
         k.reading(rt, 2_000_000)
     }
 
     // A delivery of any bytes; its name is already written.
     pub fn bytes(self, rt: &impl Print, bytes: &[u8]) -> io::Result<Self> {
-        let (left, answer) = self.handed(bytes);
+        let mut left = self;
+        let answer = left.hand(bytes);
         say::delivered(rt, answer)?;
         say::ended(rt, self.whole(), left.whole())?;
         Ok(left)
@@ -88,11 +91,8 @@ impl Practised {
 
     // The held part, replayed.
     pub fn replay(self, rt: &impl Print, steps: u32) -> io::Result<()> {
-        let end = Record::SIZE * self.session.held;
-        match self.log.get(..end) {
-            Some(log) => replay(rt, steps, log),
-            None => Ok(()),
-        }
+        let held = self.session.held.min(Limit::RECORDS);
+        replay(rt, steps, &self.log[..Record::SIZE * held])
     }
 }
 

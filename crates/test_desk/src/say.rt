@@ -16,7 +16,10 @@ pub fn record(rt: &impl Print, r: Record) -> io::Result<()> {
 
 // What a reading changes beside the last reading.
 pub fn words(rt: &impl Print, clock: Clock) -> io::Result<()> {
-    print!(rt; " steps {} remainder {} cut {}", clock.steps, clock.remainder, clock.cut)
+    print!(rt;
+        " steps {} remainder {} cut {}",
+        clock.steps, clock.remainder, clock.cut
+    )
 }
 
 // What opening and a reading answer.
