@@ -3,6 +3,8 @@
 
 #![tactic(auto)]
 
+ghost use Rattle.std.specs.Prelude.{◌≤◌};
+
 use clock::Clock;
 use fleet::{Practice, State};
 use record::Buffer;
@@ -81,35 +83,27 @@ fn lengths(rt: &impl Print) -> io::Result<()> {
     let k = celled(rt, k, "two cells of 2", b"\x02\x02")?;
     let k = boxed(rt, k, "three words of boxes", &[0, 256, 0])?;
     k.digest(rt)?;
-    let mut state = [7; State::WORDS];
-    let mut rows = [7; PRACTICE_ROWS];
-    let mut log = [7; Buffer::SIZE];
-    let missing = State::WORDS - 1;
-    print!(rt; "open with {missing} state words")?;
-    opened(rt, &mut state[1..], &mut rows, &mut log)?;
-    let missing = PRACTICE_ROWS - 1;
-    print!(rt; "open with {missing} row words")?;
-    opened(rt, &mut state, &mut rows[1..], &mut log)?;
-    let missing = Buffer::SIZE - 1;
-    print!(rt; "open with {missing} log bytes")?;
-    opened(rt, &mut state, &mut rows, &mut log[1..])
+    missing(rt, "4 state words", 1, 0, 0)?;
+    missing(rt, "319 row words", 0, 1, 0)?;
+    missing(rt, "16383 log bytes", 0, 0, 1)
 }
 
-// The opening with these buffers; its name is already written.
-fn opened(
-    rt: &impl Print,
-    state: &mut [i32],
-    rows: &mut [i32],
-    log: &mut [u8],
-) -> io::Result<()> {
+// Opening where so many state words, row words and log bytes are missing.
+fn missing(rt: &impl Print, name: &str, state: usize, rows: usize, log: usize) -> io::Result<()>
+    requires one { (state ≤ 1) × (rows ≤ 1) × (log ≤ 1) }
+{
+    let mut all_state = [7; State::WORDS];
+    let mut all_rows = [7; PRACTICE_ROWS];
+    let mut all_log = [7; Buffer::SIZE];
+    print!(rt; "open with {name}")?;
     let answer = Session::open(
         Practice::YARD,
         0,
         &Practice::CELLS,
         &Practice::BOXES,
-        state,
-        rows,
-        log,
+        &mut all_state[state..],
+        &mut all_rows[rows..],
+        &mut all_log[log..],
     );
     say::running(rt, answer)?;
     println!(rt)
