@@ -4,108 +4,69 @@ use mathlib.Core.Path.{◌≡◌, refl, sym, ap, ◌∙◌}
 use mathlib.Core.Bool.{Bool, true, false}
 use mathlib.Core.List.{List}
 use lib.IntN.{ℤ}
-use Rattle.basis.specs.Filled.{Filled, filled}
 use Rattle.basis.specs.Numbers.{FAULT}
 use Rattle.basis.specs.Order.{Answer, refused, accepted, Order, check, answer, and_then}
 use Rattle.basis.proofs.Order.{passes, fails}
-use Rattle.session.specs.Answers.{replay_leaves}
 use Rattle.session.specs.Calls.{world_order, open_order}
 use Rattle.session.specs.Lent.{Lent, Made, made, leaves as sessionLeaves}
-use Rattle.session.specs.declared.Replayed.{Replayed}
-use Rattle.session.specs.declared.Replayed.TheVariants as replayed
 use Rattle.session.specs.declared.Session.{Session}
 use Rattle.session.specs.Sound.{sound}
 use Rattle.yard.specs.Rule9.{ranges_hold}
 use Rattle.yard.specs.declared.world.Yard.{Yard}
 use Rattle.station.specs.Face.{open_face}
-use Rattle.station.specs.Left.{fills, DONE, left, leaves_by, leaves_running}
-use Rattle.station.specs.Told.{tells_by, tells_running}
-use Rattle.station.specs.Words.{session_of, nine, words_fit}
-use Rattle.station.proofs.Sessions.{fit_nine, unfit}
+use Rattle.station.specs.Left.{Left, left, leaves_by}
+use Rattle.station.specs.Words.{session_words, session_of, nine, words_order}
+use Rattle.station.proofs.Sessions.{read_nine, read_session, unread}
 
--- What replay answers, by its number.
-abbrev pub replay_number : Replayed → ℕ
-replay_number (replayed.Done) = DONE
-replay_number (replayed.Refused number) = number
-
--- Replay's answer and state are the C face's.
-module _ {r : Replayed} (before : List ℤ) {after : List ℤ} (a : Answer (List ℤ))
-    (e : filled r after ≡ replay_leaves before a) where
-  replay_fills : filled (replay_number r) after ≡ fills before a
-  replay_fills =
-      ap (λ (x : Filled Replayed ℤ). filled (replay_number x.answer) x.out) e ∙ go a
-    where
-      go : (a : Answer (List ℤ))
-          → filled (replay_number (replay_leaves before a).answer) (replay_leaves before a).out
-          ≡ fills before a
-      go (refused number) = refl
-      go (accepted state) = refl
-
-  pub replay_refused : {number : ℕ} → r ≡ replayed.Refused number
-      → filled number after ≡ fills before a
-  replay_refused q = sym (ap (λ x. filled (replay_number x) after) q) ∙ replay_fills
-
-  pub replay_done : r ≡ replayed.Done → filled DONE after ≡ fills before a
-  replay_done q = sym (ap (λ x. filled (replay_number x) after) q) ∙ replay_fills
-
--- What a call of `session` leaves, with what is told of its answer, is what the C face leaves.
-module _ {A : Type 0} (number_of_lem : A → ℕ) (session-of : A → Session) (words : List ℕ) (l : Lent)
+module _ {A : Type 0} (number-of : A → ℕ) (session-of : A → Session) (words : List ℕ) (l : Lent)
   where
-    pub leaving : (b : Answer (Made A)) {a : Answer A} {state rows : List ℤ} {log after : List ℕ}
-        {number : ℕ}
+    -- What the C face makes of an answer, and of what it leaves.
+    abbrev pub as_left : Answer A → List ℤ → List ℤ → List ℕ → Left
+    as_left (refused number) state rows log = left number state rows log words
+    as_left (accepted a) state rows log =
+        left (number-of a) state rows log (session_words (session-of a))
+
+    as_leaves : (b : Answer (Made A)) → let x = sessionLeaves l b in
+        as_left x.result x.state x.rows x.log ≡ leaves_by number-of session-of l words b
+    as_leaves (refused number) = refl
+    as_leaves (accepted m) = refl
+
+    pub leaving : (b : Answer (Made A)) {a : Answer A} {state rows : List ℤ} {log : List ℕ}
         → made a state rows log ≡ sessionLeaves l b
-        → filled number after ≡ tells_by number_of_lem session-of words a
-        → left number state rows log after ≡ leaves_by number_of_lem session-of l words b
-    leaving b {state = state} {rows = rows} {log = log} e told =
-        ap (λ (x : Filled ℕ ℕ). left x.answer state rows log x.out) told
-        ∙ ap
-        (λ (x : Made (Answer A)).
-        let said = tells_by number_of_lem session-of words x.result in
-        left said.answer x.state x.rows x.log said.out)
-        e
-        ∙ go b
-      where
-        go : (b : Answer (Made A))
-            → let x = sessionLeaves l b in
-            let said = tells_by number_of_lem session-of words x.result in
-            left said.answer x.state x.rows x.log said.out
-            ≡ leaves_by number_of_lem session-of l words b
-        go (refused number) = refl
-        go (accepted m) = refl
+        → as_left a state rows log ≡ leaves_by number-of session-of l words b
+    leaving b e =
+        ap (λ (x : Made (Answer A)). as_left x.result x.state x.rows x.log) e ∙ as_leaves b
 
-    -- A call with a session: 14 where its words don't fit; where they do, its own order decides.
-    pub unfit_left : (rest : Order (Made A)) → words_fit words ≡ false
-        → left FAULT l.state l.rows l.log words
-        ≡ leaves_by number_of_lem session-of l words
+    -- A call with a session: 14 where the words are none; where they are, its own order decides.
+    pub unread_left : (rest : Order (Made A)) {number : ℕ}
+        → answer (words_order words) ≡ refused number
+        → left number l.state l.rows l.log words
+        ≡ leaves_by number-of session-of l words
         (answer (check (nine words) FAULT (check (sound (session_of words) l) FAULT rest)))
-    unfit_left rest e = sym (ap (leaves_by number_of_lem session-of l words) (unfit words l rest e))
+    unread_left rest e =
+        sym (ap (leaves_by number-of session-of l words) (unread words l rest e))
 
-    pub fit_left : (order : Order (Made A)) → words_fit words ≡ true
-        → {a : Answer A} {state rows : List ℤ} {log after : List ℕ} {number : ℕ}
-        → made a state rows log ≡ sessionLeaves l (answer order)
-        → filled number after ≡ tells_by number_of_lem session-of words a
-        → left number state rows log after
-        ≡ leaves_by number_of_lem session-of l words (answer (check (nine words) FAULT order))
-    fit_left order fits e told =
-        leaving (answer order) e told
-        ∙ sym (ap (leaves_by number_of_lem session-of l words) (passes _ _ (fit_nine words fits)))
+    pub read_left : (order : Session → Order (Made A)) {s : Session}
+        → answer (words_order words) ≡ accepted s
+        → {a : Answer A} {state rows : List ℤ} {log : List ℕ}
+        → made a state rows log ≡ sessionLeaves l (answer (order s))
+        → as_left a state rows log
+        ≡ leaves_by number-of session-of l words
+        (answer (check (nine words) FAULT (order (session_of words))))
+    read_left order {s} read e =
+        leaving (answer (order s)) e
+        ∙ sym
+        (ap (λ x. leaves_by number-of session-of l words (answer (order x)))
+        (read_session words read))
+        ∙ sym (ap (leaves_by number-of session-of l words) (passes _ _ (read_nine words read)))
 
 -- Opening with nine words: the ranges are the first test of opening's own order too.
-module _ (yard : Yard) (reading : ℕ) (l : Lent) (words : List ℕ) (n : nine words ≡ true) where
-  open_decides : answer (open_order yard reading l) ≡ answer (open_face yard reading l words)
-  unfolding open_face open_order world_order and_then
-  open_decides = go (ranges_hold yard) refl
-    where
-      go : (t : Bool) → ranges_hold yard ≡ t
-          → answer (open_order yard reading l) ≡ answer (open_face yard reading l words)
-      go true e = sym (passes _ _ e ∙ passes _ _ n)
-      go false e = fails _ _ e ∙ sym (fails _ _ e)
-
-  pub open_left : {a : Answer Session} {state rows : List ℤ} {log after : List ℕ} {number : ℕ}
-      → made a state rows log ≡ sessionLeaves l (answer (open_order yard reading l))
-      → filled number after ≡ tells_running words a
-      → left number state rows log after
-      ≡ leaves_running l words (answer (open_face yard reading l words))
-  open_left e told =
-      leaving _ _ words l (answer (open_order yard reading l)) e told
-      ∙ ap (leaves_running l words) open_decides
+pub open_decides : (yard : Yard) (reading : ℕ) (l : Lent) (words : List ℕ) → nine words ≡ true
+    → answer (open_order yard reading l) ≡ answer (open_face yard reading l words)
+unfolding open_face open_order world_order and_then
+open_decides yard reading l words n = go (ranges_hold yard) refl
+  where
+    go : (t : Bool) → ranges_hold yard ≡ t
+        → answer (open_order yard reading l) ≡ answer (open_face yard reading l words)
+    go true e = sym (passes _ _ e ∙ passes _ _ n)
+    go false e = fails _ _ e ∙ sym (fails _ _ e)
