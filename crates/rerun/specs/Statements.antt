@@ -8,7 +8,8 @@ use Rattle.session.specs.Calls.{replay_order}
 use Rattle.fleet.specs.State.{state_words}
 use Rattle.fleet.specs.Examples.{practice, two_records}
 use Rattle.rerun.specs.Ascii.{line}
-use Rattle.rerun.specs.Rerun.{End, steps_past, end_of, program_order}
+use Rattle.rerun.specs.Rerun.{steps_past, end_of, program_order}
+use Rattle.rerun.specs.declared.ended.Ended.{Ended}
 use Rattle.rerun.specs.Text.{program_text}
 
 -- 'The program', of every input.
@@ -34,7 +35,7 @@ pub record Program : Type 0 where
       practice.cells practice.boxes state input)
       ≡ accepted (end_of (records_of input)).state
   -- It never asks for more steps than a session makes.
-  pub steps : (input : List ℕ) (end : End) → answer (program_order input) ≡ accepted end
+  pub steps : (input : List ℕ) (end : Ended) → answer (program_order input) ≡ accepted end
       → end.steps ≤ most_steps
 
 -- 'Program, .. output whole'.

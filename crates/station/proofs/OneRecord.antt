@@ -69,7 +69,9 @@ module _ (step carrier lever : ℕ) (out : List ℕ) where
 
       pub write_no_room : (length out ≡ 8 → ⊥)
           → answer (write_record_face step carrier lever out) ≡ refused ROOM
-      write_no_room h = from_record (λ _. _) (λ r p. not_eight p h)
+      write_no_room h =
+          from_record (λ b. answer (write_record_face step carrier lever out) ≡ refused ROOM)
+          (λ r p. not_eight p h)
 
       pub write_given : length out ≡ 8
           → answer (write_record_face step carrier lever out) ≡ accepted bytes
