@@ -8,7 +8,7 @@ use native.Mathlib.Numerals.{add-one}
 use native.Mathlib.Omega.{arith}
 use lib.Ieee.{Float, nan}
 use lib.ListN.{length, take, drop, get_or, set}
-use lib.Seq.{drop-cons, drop-drop, drop-length, get_or-drop, take-suc-set}
+use lib.Seq.{drop-cons, drop-drop, drop-length, get_or-drop, take-suc-set, take_all}
 use borrow.Author.Tests.{eq-eqb, ne_eqb, le-leb, lt-leb}
 use Rattle.basis.specs.Numbers.{ROOM, ROPE}
 use Rattle.basis.specs.Order.{answer, refused, accepted, and_then, give}
@@ -88,11 +88,17 @@ module _ (kinds : List ℕ) (numbers : List Float) (i : ℕ) where
       ∙ put in
       ap accepted all ∙ sym (passes _ _ (e ∙ ap kinds_hold none) ∙ gives _)
 
-pub forces_length : (kinds : List ℕ) (numbers : List Float)
+forces_length : (kinds : List ℕ) (numbers : List Float)
     → length (forces_of kinds numbers) ≡ length kinds
 unfolding forces_of
 forces_length [] numbers = refl
 forces_length (kind ∷ kinds) numbers = ap suc (forces_length kinds (drop 2 numbers))
+
+-- Each of them counts.
+pub all_forces : (kinds : List ℕ) (numbers : List Float)
+    → take (length kinds) (forces_of kinds numbers) ≡ forces_of kinds numbers
+all_forces kinds numbers =
+    take_all (length kinds) (forces_of kinds numbers) (omega (arith, forces_length kinds numbers))
 
 module _ (kinds : List ℕ) (numbers point : List Float) where
   pub wrong_numbers : (length numbers ≡ 2 * length kinds → ⊥)
@@ -114,7 +120,7 @@ module _ (kinds : List ℕ) (numbers point : List Float) where
       -- With kinds that hold, the step of their forces decides.
       pub steps : kinds_hold kinds ≡ true
           → answer (rope_face kinds numbers point)
-          ≡ answer (and_then (rope_order (point_of point) (forces_of kinds numbers))
+          ≡ answer (and_then (rope_order (point_of point) (forces_of kinds numbers) (length kinds))
           (λ next. give (next.place ∷ next.speed ∷ [])))
       unfolding rope_face
       steps known = passes _ _ (eq-eqb _ _ two) ∙ passes _ _ (eq-eqb _ _ long) ∙ passes _ _ known
@@ -125,47 +131,44 @@ module _ (kinds : List ℕ) (numbers point : List Float) where
         where
           go : (t : Bool) → kinds_hold kinds ≡ t
               → answer (rope_face kinds numbers point) ≡ refused ROPE
-          go true e =
-              let many : 8 < length (forces_of kinds numbers) = omega (arith, h, forces_length kinds numbers) in
-              steps e ∙ stops _ _ (too_many (point_of point) (forces_of kinds numbers) many)
+          go true e = steps e ∙ stops _ _ (too_many (point_of point) (forces_of kinds numbers) _ h)
           go false e = wrong_kind e
 
       -- The forces as the code has made them.
       pub not_made : {number : ℕ} → answer (forces_order kinds numbers) ≡ refused number
           → answer (rope_face kinds numbers point) ≡ refused number
       unfolding forces_order
-      not_made e = go (kinds_hold kinds) refl
+      not_made {number} e = go (kinds_hold kinds) refl
         where
-          go : (t : Bool) → kinds_hold kinds ≡ t → {number : ℕ}
-              → answer (rope_face kinds numbers point) ≡ refused number
+          go : (t : Bool) → kinds_hold kinds ≡ t → answer (rope_face kinds numbers point) ≡ refused number
           go true known = apart (sym e ∙ passes _ _ known ∙ gives _)
-          go false none = wrong_kind none ∙ sym (fails _ _ none) ∙ e
+          go false none =
+              let same : ROPE ≡ number = cc (sym e ∙ fails _ _ none) in
+              wrong_kind none ∙ ap refused same
 
       module _ {forces : List Force} (made : answer (forces_order kinds numbers) ≡ accepted forces)
         where
           decides : answer (rope_face kinds numbers point)
-              ≡ answer (and_then (rope_order (point_of point) forces)
+              ≡ answer (and_then (rope_order (point_of point) forces (length forces))
               (λ next. give (next.place ∷ next.speed ∷ [])))
           unfolding forces_order
           decides = go (kinds_hold kinds) refl
             where
               go : (t : Bool) → kinds_hold kinds ≡ t
                   → answer (rope_face kinds numbers point)
-                  ≡ answer (and_then (rope_order (point_of point) forces)
+                  ≡ answer (and_then (rope_order (point_of point) forces (length forces))
                   (λ next. give (next.place ∷ next.speed ∷ [])))
               go false none = apart (sym (fails _ _ none) ∙ made)
               go true known =
                   let same : forces_of kinds numbers ≡ forces = given _ (sym (passes _ _ known) ∙ made) in
-                  steps known
-                  ∙ ap
-                  (λ l. answer (and_then (rope_order (point_of point) l)
-                  (λ next. give (next.place ∷ next.speed ∷ []))))
-                  same
+                  let long : length kinds ≡ length forces =
+                  sym (forces_length kinds numbers) ∙ ap length same in
+                  steps known ∙ rw (same, long)
 
-          pub step_refused : {number : ℕ} → answer (rope_order (point_of point) forces) ≡ refused number
+          pub step_refused : {number : ℕ} → answer (rope_order (point_of point) forces (length forces)) ≡ refused number
               → answer (rope_face kinds numbers point) ≡ refused number
           step_refused e = decides ∙ stops _ _ e
 
-          pub step_moved : {next : Point} → answer (rope_order (point_of point) forces) ≡ accepted next
+          pub step_moved : {next : Point} → answer (rope_order (point_of point) forces (length forces)) ≡ accepted next
               → answer (rope_face kinds numbers point) ≡ accepted (next.place ∷ next.speed ∷ [])
           step_moved e = decides ∙ goes_on _ _ e ∙ gives _

@@ -64,5 +64,5 @@ rope_face kinds numbers point =
     check (eqb (length numbers) (2 * length kinds)) ROOM
     (check (eqb (length point) 2) ROOM
     (check (kinds_hold kinds) ROPE
-    (and_then (rope_order (point_of point) (forces_of kinds numbers))
+    (and_then (rope_order (point_of point) (forces_of kinds numbers) (length kinds))
     (λ next. give (next.place ∷ next.speed ∷ [])))))
