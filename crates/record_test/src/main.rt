@@ -40,7 +40,10 @@ fn damaged_logs(rt: &impl Print) -> io::Result<()> {
         ("step 180000", b"\x20\xbf\x02\0\0\0\0\0"),
         ("one place twice", b"\0\0\0\0\0\x01\0\0\0\0\0\0\0\x02\0\0"),
         ("step descends", b"\x01\0\0\0\0\x01\0\0\0\0\0\0\x05\x02\0\0"),
-        ("carrier descends", b"\0\0\0\0\x01\x01\0\0\0\0\0\0\0\x02\0\0"),
+        (
+            "carrier descends",
+            b"\0\0\0\0\x01\x01\0\0\0\0\0\0\0\x02\0\0",
+        ),
     ];
     for (name, bytes) in logs {
         log(rt, name, bytes)?;
@@ -49,6 +52,7 @@ fn damaged_logs(rt: &impl Print) -> io::Result<()> {
 }
 
 const FULL: usize = Buffer::SIZE;
+
 const ONE_MORE: usize = FULL + Record::SIZE;
 
 // 2,048 records and one more.
@@ -102,11 +106,13 @@ fn records_read(rt: &impl Print) -> io::Result<()> {
     for (name, bytes) in records {
         print!(rt; "read, {name}:")?;
         match record::read_record(bytes) {
-            Ok(Record {
-                step,
-                carrier,
-                lever,
-            }) => println!(rt; " {step} {carrier} {lever}")?,
+            Ok(
+                Record {
+                    step,
+                    carrier,
+                    lever,
+                },
+            ) => println!(rt; " {step} {carrier} {lever}")?,
             Err(why) => println!(rt; " refused {why}")?,
         }
     }

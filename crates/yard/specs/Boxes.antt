@@ -11,11 +11,11 @@ abbrev pub word : List ℤ → ℕ → ℕ → ℤ
 word boxes i k = get_or boxes (4 * i + k) (pos 0)
 
 -- The number of a word: 'x, y, w, h in that order'.
-abbrev pub number_of : Word → ℕ
-number_of X = 0
-number_of Y = 1
-number_of W = 2
-number_of H = 3
+abbrev pub word_number : Word → ℕ
+word_number X = 0
+word_number Y = 1
+word_number W = 2
+word_number H = 3
 
 -- The size of carrier i.
 unfoldable pub size_of : List ℤ → ℕ → Size

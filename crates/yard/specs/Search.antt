@@ -1,26 +1,24 @@
 -- What the search of the covered cells answers: for contracts of parts only, no promise of its own.
-use Rattle.std.specs.Prelude.{ℕ, ◌+◌, ◌-◌, ◌/◌, ◌≤◌, ◌<◌, ◌≡◌, true, false, Option, None, Some, List}
+use Rattle.std.specs.Prelude.{ℕ, ◌+◌, ◌-◌, ◌*◌, ◌/◌, ◌≤◌, ◌<◌, ◌≡◌, true, false, Option, None, Some, MatchOption, List, length, take, drop}
 use Rattle.yard.specs.declared.world.Yard.{Yard}
 use Rattle.yard.specs.declared.world.Size.{Size}
 use Rattle.yard.specs.declared.place.Block.{Block}
 use Rattle.yard.specs.declared.place.Cell.{Cell}
 use Rattle.yard.specs.Free.{wall_at, wall}
 
--- No cell from..to is a wall.
-abbrev pub NoWall : List ℕ → ℕ → ℕ → Type 0
-NoWall cells from to = (i : ℕ) → i < to → from ≤ i → wall_at cells i ≡ false
+-- None of the first n cells is a wall.
+abbrev pub NoWall : List ℕ → ℕ → Type 0
+NoWall cells n = (i : ℕ) → i < n → wall_at cells i ≡ false
 
--- The first wall among the cells from..to.
-pub record WallFirst (cells : List ℕ) (from to found : ℕ) : Type 0 where
-  pub low : from ≤ found
-  pub high : found < to
-  pub earlier : NoWall cells from found
-  pub there : wall_at cells found ≡ true
+-- What a search of cells answers: the first wall among them.
+abbrev pub FirstWall : List ℕ → Option ℕ → Type 0
+FirstWall cells found =
+    MatchOption found (NoWall cells (length cells))
+    (λ i. (i < length cells) × (wall_at cells i ≡ true) × NoWall cells i)
 
--- What a search of the cells from..to answers.
-abbrev pub FirstWall : List ℕ → ℕ → ℕ → Option ℕ → Type 0
-FirstWall cells from to None = NoWall cells from to
-FirstWall cells from to (Some found) = WallFirst cells from to found
+-- The cells of a row.
+abbrev pub row_of : Yard → List ℕ → ℕ → List ℕ
+row_of yard cells row = take yard.w (drop (row * yard.w) cells)
 
 -- The cells under the box at (x, y).
 abbrev pub block_of : Size → ℕ → ℕ → Block

@@ -26,6 +26,7 @@ fn lever_after(held: Option<u8>, lever: i32) -> i32
 
 impl Ground<'_> {
     // One step of a sound carrier.
+    #[tactic(auto, using(crate::proofs::Soundness::steps), unfolding(crate::specs::Step::step))]
     pub fn step(&self, held: Option<u8>, carrier: Carrier) -> Carrier
         requires table { LeverFits held }
         requires sound { sound_carrier (free_on self.now) carrier ≡ true }
@@ -47,6 +48,7 @@ impl Ground<'_> {
     }
 
     // The state rule, for any words.
+    #[tactic(auto, unfolding(crate::specs::Step::sound_carrier))]
     pub fn is_sound(&self, carrier: Carrier) -> bool
         ensures rule { result ≡ sound_carrier (free_on self.now) carrier }
     {

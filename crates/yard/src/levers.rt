@@ -53,6 +53,7 @@ impl Speed {
 }
 
 // The table at levers 0 to 8.
+#[tactic(auto, unfolding(crate::specs::Levers::push_of))]
 fn push_of(lever: usize) -> Push
     requires table { lever < 9 }
     ensures pair { result ≡ push_of lever }
@@ -61,6 +62,7 @@ fn push_of(lever: usize) -> Push
 }
 
 // 'old speed plus push, then cut'.
+#[tactic(auto, unfolding(crate::specs::Levers::cut_speed))]
 fn pushed_speed(old: i32, push: i32) -> i32
     requires small { (nat_abs old ≤ 200) × (nat_abs push ≤ 12) }
     ensures cut { result ≡ cut_speed (old +ℤ push) }
@@ -69,6 +71,7 @@ fn pushed_speed(old: i32, push: i32) -> i32
 }
 
 // Lever 9: 'toward zero, and never past it' (02 §2).
+#[tactic(auto, unfolding(crate::specs::Levers::brake))]
 fn brake_speed(old: i32) -> i32
     requires small { nat_abs old ≤ 200 }
     ensures braked { result ≡ brake old }
@@ -77,6 +80,7 @@ fn brake_speed(old: i32) -> i32
 }
 
 // Part 2, along one axis.
+#[tactic(auto, using(crate::proofs::Limits::speeds), unfolding(crate::specs::Levers::new_speed))]
 pub fn new_speed(axis: Axis, lever: usize, old: i32) -> i32
     requires sound { (lever ≤ 9) × (nat_abs old ≤ 200) }
     ensures part { result ≡ new_speed axis lever old }

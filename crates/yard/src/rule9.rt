@@ -16,6 +16,7 @@ fn is_from_one(n: u32, most: u32) -> bool
 }
 
 // W, H and B are in range.
+#[tactic(auto, unfolding(crate::specs::Rule9::ranges_hold))]
 pub fn ranges_hold(yard: Yard) -> bool
     ensures ranges { RangesHoldSays yard result }
 {
@@ -31,6 +32,7 @@ pub fn cells_hold(cells: &[u8]) -> bool
     cells.iter().all(|cell| *cell <= Yard::WALL)
 }
 
+#[tactic(auto, unfolding(crate::specs::Rule9::size_holds))]
 fn size_holds(boxes: &[i32], i: usize) -> bool
     requires room { (i < 32) × (4 * i + 4 ≤ length boxes.now) }
     ensures size { result ≡ size_holds boxes.now i }
@@ -47,6 +49,7 @@ pub fn sizes_hold(yard: Yard, boxes: &[i32]) -> bool
     (0..yard.b as usize).all(|i| size_holds(boxes, i))
 }
 
+#[tactic(auto, unfolding(crate::specs::Rule9::start_holds))]
 fn start_holds(yard: Yard, cells: &[u8], boxes: &[i32], i: usize) -> bool
     requires laid { CellsFit yard cells.now }
     requires room { (i < 32) × (4 * i + 4 ≤ length boxes.now) }

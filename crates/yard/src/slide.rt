@@ -15,6 +15,7 @@ pub struct Moved {
 }
 
 // The place so many units on, in the direction of the speed.
+#[tactic(auto, unfolding(crate::specs::Slide::toward))]
 fn toward(speed: i32, from: i32, units: usize) -> i32
     requires near { (nat_abs from ≤ 16384) × (units ≤ 200) }
     ensures place { result ≡ toward speed from units }
@@ -28,6 +29,7 @@ fn toward(speed: i32, from: i32, units: usize) -> i32
 
 impl Ground<'_> {
     // Whether the place so many units on along the axis is free.
+    #[tactic(auto, unfolding(crate::specs::Slide::clear_on))]
     fn clear_on(&self, axis: Axis, speed: i32, x: i32, y: i32, units: usize) -> bool
         requires near { (nat_abs x ≤ 16384) × (nat_abs y ≤ 16384) × (units ≤ 200) }
         ensures on { result ≡ clear_on (free_on self.now) axis speed x y units }
@@ -51,6 +53,7 @@ impl Ground<'_> {
     }
 
     // The move along the axis of a carrier that stands free at (x, y).
+    #[tactic(auto, unfolding(crate::specs::Slide::slide))]
     pub(super) fn slide(&self, axis: Axis, speed: i32, x: i32, y: i32) -> Moved
         requires slow { nat_abs speed ≤ 200 }
         requires stands { free_on self.now x y ≡ true }

@@ -11,6 +11,7 @@ pub fn magnitude(z: i32) -> usize
 }
 
 // low to high, ends allowed.
+#[tactic(auto, unfolding(crate::specs::Ranges::between))]
 pub fn is_between(low: i32, z: i32, high: i32) -> bool
     ensures tested { result ≡ between low z high }
 {

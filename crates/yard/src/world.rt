@@ -1,6 +1,6 @@
 // 'The yard and its carriers': W, H and B, the carriers' words, and where one carrier moves.
 ghost use Rattle.std.specs.Prelude.{◌≡◌, ◌+◌, ◌*◌, ◌≤◌, ◌<◌, length};
-ghost use Rattle.yard.specs.Boxes.{CellsFit, SizeFits, word, number_of, size_of};
+ghost use Rattle.yard.specs.Boxes.{CellsFit, SizeFits, word, word_number, size_of};
 
 use super::words::magnitude;
 
@@ -24,10 +24,10 @@ impl Yard {
 // 'for each carrier x, y, w, h in that order'.
 #[derive(Clone, Copy)]
 pub enum Word {
-    X = 0,
-    Y = 1,
-    W = 2,
-    H = 3,
+    X,
+    Y,
+    W,
+    H,
 }
 
 impl Word {
@@ -38,7 +38,7 @@ impl Word {
 // A word of carrier i.
 pub fn word_of(boxes: &[i32], i: usize, which: Word) -> i32
     requires room { (i < 32) × (4 * i + 4 ≤ length boxes.now) }
-    ensures read { result ≡ word boxes.now i (number_of which) }
+    ensures read { result ≡ word boxes.now i (word_number which) }
 {
     boxes[Word::COUNT * i + which as usize]
 }
@@ -55,6 +55,7 @@ impl Size {
     pub const MOST: i32 = 1_024;
 
     // The size of carrier i.
+    #[tactic(auto, unfolding(crate::specs::Boxes::size_of))]
     pub fn at(boxes: &[i32], i: usize) -> Self
         requires room { (i < 32) × (4 * i + 4 ≤ length boxes.now) }
         ensures size { result ≡ size_of boxes.now i }
