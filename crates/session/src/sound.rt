@@ -1,34 +1,20 @@
 // Is a session sound, with all that is lent (document 01, '*Sound* means').
 
-ghost use Rattle.std.specs.Prelude.{◌≡◌};
-ghost use Rattle.fleet.specs.Fits.{WorldFits};
-ghost use Rattle.fleet.specs.Site.{world_at};
-ghost use Rattle.fleet.specs.State.{world_of};
-ghost use Rattle.session.specs.Lent.{lent_in};
+ghost use Rattle.std.specs.Prelude.{◌≡◌, true};
+ghost use Rattle.fleet.specs.State.{sound_state};
+ghost use Rattle.session.specs.Lent.{lent_in, world_in};
+ghost use Rattle.session.specs.Calls.{row_in};
 ghost use Rattle.session.specs.Sound.{sound};
 
 use super::{Buffers, Session};
-use fleet::Site;
+use fleet::{Rows, Site};
 use record::records_sound;
-use yard::{Yard, cells_hold, ranges_hold, sizes_hold};
-
-impl<'a> Buffers<'a> {
-    // The lent world, once it has been tested.
-    pub fn site(self, yard: Yard) -> Site<'a>
-        requires fits { WorldFits (world_of yard self.cells.now self.boxes.now) }
-        ensures world { world_at result ≡ world_of yard self.entry.cells.now self.entry.boxes.now }
-    {
-        Site {
-            yard,
-            cells: self.cells,
-            boxes: self.boxes,
-        }
-    }
-}
+use yard::{cells_hold, ranges_hold, sizes_hold};
 
 impl Session {
     // Is the session sound with these buffers.
-    pub fn is_sound(self, lent: Buffers) -> bool
+    #[tactic(auto, using(crate::proofs::Room::lengths_say), unfolding(crate::specs::Sound::sound))]
+    pub(super) fn is_sound(self, lent: Buffers) -> bool
         ensures sound { result ≡ sound self (lent_in lent.entry) }
     {
         let yard = self.yard;
@@ -38,6 +24,30 @@ impl Session {
             && sizes_hold(yard, lent.boxes)
             && self.clock.is_sound()
             && records_sound(lent.log, self.held, yard.b)
-            && lent.site(yard).state_sound(lent.state)
+            && Site {
+                yard,
+                cells: lent.cells,
+                boxes: lent.boxes,
+            }
+            .state_sound(lent.state)
+    }
+
+    // Is the row saved before step t sound, by the same rule; of a sound session.
+    pub(super) fn row_sound(self, lent: Buffers, t: u32) -> bool
+        requires sound { sound self (lent_in lent) ≡ true }
+        ensures rule { result ≡ sound_state (world_in self (lent_in lent.entry))
+            (row_in self (lent_in lent.entry) t) }
+    {
+        let yard = self.yard;
+        let site = Site {
+            yard,
+            cells: lent.cells,
+            boxes: lent.boxes,
+        };
+        let rows = Rows {
+            yard,
+            words: lent.rows,
+        };
+        site.state_sound(rows.row(t))
     }
 }

@@ -15,6 +15,7 @@ use record::Buffer;
 use yard::{Word, Yard, cells_hold, ranges_hold, sizes_hold, starts_hold};
 
 // Rule 10, of the lengths that replay asks.
+#[tactic(auto, unfolding(crate::specs::Sound::world_room))]
 pub fn world_room(yard: Yard, cells: usize, boxes: usize, state: usize) -> bool
     ensures room { result ≡ world_room yard cells boxes state }
 {
@@ -26,7 +27,8 @@ pub fn world_room(yard: Yard, cells: usize, boxes: usize, state: usize) -> bool
 
 impl Buffers<'_> {
     // Rule 10 whole.
-    pub fn has_room(self, yard: Yard) -> bool
+    #[tactic(auto, unfolding(crate::specs::Sound::room))]
+    pub(super) fn has_room(self, yard: Yard) -> bool
         ensures room { result ≡ room yard (lent_in self.entry) }
     {
         world_room(yard, self.cells.len(), self.boxes.len(), self.state.len())
@@ -36,6 +38,7 @@ impl Buffers<'_> {
 }
 
 // Opening's order, where rule 10 has been answered.
+#[tactic(auto, using(crate::proofs::Openings::tests), unfolding(crate::specs::Calls::world_order))]
 pub fn check_world(yard: Yard, lengths: bool, cells: &[u8], boxes: &[i32]) -> Result<(), Refusal>
     requires room { lengths ≡ true
         → (length cells.now ≡ yard.w * yard.h) × (length boxes.now ≡ 4 * yard.b) }
