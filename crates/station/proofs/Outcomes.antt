@@ -1,7 +1,9 @@
 -- What a part answers, as the C face tells it; and what is told fills one slice.
 use Prim.Native.Nat.{ℕ}
-use mathlib.Core.Path.{◌≡◌, sym, ap, ◌∙◌}
-use mathlib.Core.List.{List}
+use mathlib.Core.Path.{◌≡◌, refl, sym, ap}
+use mathlib.Core.List.{List, [], ◌∷◌}
+use native.Mathlib.Omega.{arith}
+use lib.ListN.{length, set}
 use Rattle.std.specs.Prelude.{Result, IsErrAnd}
 use Rattle.std.proofs.lemmas.Result.{err_from_is_err_and}
 use Rattle.basis.specs.Filled.{filled}
@@ -28,3 +30,9 @@ module _ {A : Type 0} (before : List A) {a : Answer (List A)} where
 
   pub given_fills : {after : List A} → a ≡ accepted after → filled DONE after ≡ fills before a
   given_fills e = sym (ap (fills before) e)
+
+-- One element stored in a slice of one.
+pub one_stored : {A : Type 0} (d : List A) (a : A) → length d ≡ 1 → set d 0 a ≡ a ∷ []
+one_stored [] a e = absurd (omega arith)
+one_stored (x ∷ []) a e = refl
+one_stored (x ∷ y ∷ d) a e = absurd (omega arith)

@@ -15,7 +15,7 @@ use Rattle.session.specs.Sound.{sound}
 use Rattle.session.specs.declared.Session.{Session}
 use Rattle.session.proofs.Good.{good}
 use Rattle.session.proofs.Room.{width_most, height_most, carriers_most}
-use Rattle.station.specs.Words.{session_of, nine, fits_u32, words_fit, words_order}
+use Rattle.station.specs.Words.{session_words, session_of, nine, fits_u32, words_fit, words_order}
 
 -- The ways through the reading of nine words.
 module _ (words : List ℕ) where
@@ -56,6 +56,15 @@ module _ (words : List ℕ) where
       go true fits q = (fits, given _ (sym (passes _ _ fits) ∙ q))
       go false none q = apart (sym (fails _ _ none) ∙ q)
 
+  read_fails : {number : ℕ} → answer (words_order words) ≡ refused number
+      → (words_fit words ≡ false) × (FAULT ≡ number)
+  unfolding words_order
+  read_fails {number} e = go (words_fit words) refl
+    where
+      go : (t : Bool) → words_fit words ≡ t → (words_fit words ≡ false) × (FAULT ≡ number)
+      go true fits = apart (sym e ∙ passes _ _ fits ∙ gives _)
+      go false none = let same : FAULT ≡ number = cc (sym e ∙ fails _ _ none) in (none, same)
+
   pub read_nine : {s : Session} → answer (words_order words) ≡ accepted s → nine words ≡ true
   unfolding words_fit
   read_nine e =
@@ -65,8 +74,11 @@ module _ (words : List ℕ) where
       (and_left (nine words && w) h
       (and_left (nine words && w && h) (fits_u32 (get_or words 2 0)) (read_gives e).0))
 
-  pub read_long : {s : Session} → answer (words_order words) ≡ accepted s → length words ≡ 9
-  read_long e = eqb-true _ _ (read_nine e)
+  -- So the words of any session have room there.
+  pub read_as_long : {s : Session} (other : Session) → answer (words_order words) ≡ accepted s
+      → length words ≡ length (session_words other)
+  unfolding session_words
+  read_as_long other e = eqb-true _ _ (read_nine e)
 
   pub read_session : {s : Session} → answer (words_order words) ≡ accepted s
       → session_of words ≡ s
@@ -89,15 +101,14 @@ module _ (words : List ℕ) where
       → answer (words_order words) ≡ refused number
       → answer (check (nine words) FAULT (check (sound (session_of words) l) FAULT rest))
       ≡ refused number
-  unfolding words_order
-  unread l rest e = go (words_fit words) refl (nine words) refl (sound (session_of words) l) refl e
+  unread l rest e =
+      let none = read_fails e in
+      go (nine words) refl (sound (session_of words) l) refl none.0 ∙ ap refused none.1
     where
-      go : (t : Bool) → words_fit words ≡ t → (n : Bool) → nine words ≡ n
-          → (s : Bool) → sound (session_of words) l ≡ s → {number : ℕ}
-          → answer (words_order words) ≡ refused number
+      go : (n : Bool) → nine words ≡ n → (s : Bool) → sound (session_of words) l ≡ s
+          → words_fit words ≡ false
           → answer (check (nine words) FAULT (check (sound (session_of words) l) FAULT rest))
-          ≡ refused number
-      go true fits n f s k q = apart (sym q ∙ passes _ _ fits ∙ gives _)
-      go false none false f s k q = fails _ _ f ∙ sym (fails _ _ none) ∙ q
-      go false none true f false k q = passes _ _ f ∙ fails _ _ k ∙ sym (fails _ _ none) ∙ q
-      go false none true f true k q = never (sound_fit l f k) none
+          ≡ refused FAULT
+      go false n s q none = fails _ _ n
+      go true n false q none = passes _ _ n ∙ fails _ _ q
+      go true n true q none = never (sound_fit l n q) none

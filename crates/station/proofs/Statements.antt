@@ -34,7 +34,7 @@ use Rattle.station.specs.Statements.{Lengths, Thin, LoadFace, TwoNumbers}
 use Rattle.station.proofs.Loading.{load_numbers}
 use Rattle.station.proofs.Merging.{wrong_count, wrong_buffer, merges}
 use Rattle.station.proofs.OneRecord.{read_no_room, not_eight}
-use Rattle.station.proofs.Showing.{wrong_out, shows_order}
+use Rattle.station.proofs.Showing.{digest_room, shown_room, shows_order}
 use Rattle.station.proofs.Ropes.{wrong_numbers, wrong_point, steps}
 
 session_back : (words : List ℕ) → length words ≡ 9 → session_words (session_of words) ≡ words
@@ -131,16 +131,6 @@ module _ (words : List ℕ) (h : length words ≡ 9 → ⊥) (l : Lent) where
   shown_fault carrier out = shows_fault 2 out _ _
 
 -- A slice that isn't as long as what is given.
-digest_room : (l : Lent) (words out : List ℕ) → (length out ≡ 1 → ⊥)
-    → answer (digest_face l words out) ≡ refused FAULT
-unfolding digest_face
-digest_room l words out h = wrong_out _ _ _ _ _ h
-
-shown_room : (carrier : ℕ) (l : Lent) (words : List ℕ) (out : List Float) → (length out ≡ 2 → ⊥)
-    → answer (shown_face carrier l words out) ≡ refused FAULT
-unfolding shown_face
-shown_room carrier l words out h = wrong_out _ _ _ _ _ h
-
 part_room : (log : List ℕ) (step : ℕ) (out : List ℕ) → (length out ≡ 2 → ⊥)
     → answer (step_records_face log step out) ≡ refused ROOM
 unfolding step_records_face
