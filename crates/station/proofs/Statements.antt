@@ -18,7 +18,6 @@ use Rattle.merge.specs.Calls.{carriers_hold}
 use Rattle.load.specs.Step.{step_order}
 use Rattle.yard.specs.Rule9.{ranges_hold}
 use Rattle.yard.specs.declared.world.Yard.{Yard}
-use Rattle.rope.specs.Step.{rope_order}
 use Rattle.session.specs.Calls.{world_order, open_order, reading_order, deliver_order}
 use Rattle.session.specs.Calls.{digest_order, shown_order}
 use Rattle.session.specs.Lent.{Lent}
@@ -28,7 +27,7 @@ use Rattle.session.proofs.Good.{bad_ranges}
 use Rattle.station.specs.Words.{session_words, session_of, nine}
 use Rattle.station.specs.Face.{open_face, reading_face, deliver_face, shows, digest_face}
 use Rattle.station.specs.Face.{shown_face, step_records_face, merge_face, load_of, load_step_face}
-use Rattle.station.specs.Ropes.{kinds_hold, force_of, forces_of, point_of, rope_face}
+use Rattle.station.specs.Ropes.{force_of, rope_face}
 use Rattle.station.specs.Statements.{NineWords, Determined, Refusals}
 use Rattle.station.specs.Statements.{Lengths, Thin, LoadFace, TwoNumbers}
 use Rattle.station.proofs.Loading.{load_numbers}

@@ -22,6 +22,7 @@ mod words;
 ghost use Rattle.std.specs.Prelude.{◌≡◌};
 ghost use Rattle.station.specs.Told.{told_of};
 
+use basis::Refusal;
 pub use calls::{wuthracomb_deliver, wuthracomb_open, wuthracomb_reading, wuthracomb_replay};
 pub use loads::wuthracomb_load_step;
 pub use merges::wuthracomb_merge;
@@ -30,8 +31,6 @@ pub use records::{
 };
 pub use rope_ends::wuthracomb_rope_step;
 pub use show::{wuthracomb_digest, wuthracomb_shown};
-
-use basis::Refusal;
 
 #[derive(Drop)]
 struct Face {}

@@ -42,7 +42,7 @@ returns c =
       delivered =
           rw (c.copy_from_slice.ensures.after, c.words_of.ensures.words)
           (elim c.match-delivered.branch [
-            in-Taken w ↦ rw w.number-is (rw w.in-Taken.is at made)
-          | in-Held w ↦ rw w.number-is (rw w.in-Held.is at made)
+            | in-Taken w ↦ rw w.number-is (rw w.in-Taken.is at made)
+            | in-Held w ↦ rw w.number-is (rw w.in-Held.is at made)
           ]);
     }

@@ -3,7 +3,7 @@ use mathlib.Core.Path.{sym, ap}
 use Rattle.basis.proofs.Tests.{passed, failed}
 use Rattle.station.specs.Left.{leaves_merged}
 use Rattle.station.proofs.Merging.{wrong_b, wrong_count, merging_leaves}
-use Rattle.station.proofs.Outcomes.{told_on}
+use Rattle.station.proofs.Outcomes.{told_on, one_stored}
 use Rattle.station.proofs.merges.merge_into.Goals as goal
 
 pub returns-then-not-carriers_hold : goal.returns-then-not-carriers_hold
@@ -32,4 +32,9 @@ returns-in_err-records c =
     }
 
 pub returns : goal.returns
-returns c = ?
+returns c =
+    record {
+      merged =
+          rw (one_stored _ _ c.if-count-ne1.false)
+          (merging_leaves _ _ _ _ _ _ _ c.if-count-ne1.false c.in_ok-records.ensures.merged);
+    }

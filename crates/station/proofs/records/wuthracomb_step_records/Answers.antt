@@ -1,5 +1,5 @@
 -- `wuthracomb_step_records` meets its contract.
-use mathlib.Core.Path.{sym, ap, ◌∙◌}
+use mathlib.Core.Path.{◌∙◌}
 use borrow.Author.Tests.{eq-eqb, ne_eqb}
 use Rattle.basis.proofs.Order.{passes, fails, gives}
 use Rattle.station.specs.Face.{step_records_face}

@@ -1,7 +1,6 @@
 -- `step_in` meets its contract.
-use mathlib.Core.Path.{◌≡◌, sym}
+use mathlib.Core.Path.{sym}
 use native.Mathlib.Omega.{arith}
-use lib.ListN.{length}
 use Rattle.station.proofs.Outcomes.{told_on, refused_fills, given_fills}
 use Rattle.station.proofs.Ropes.{wrong_numbers, wrong_point, too_many_kinds, not_made}
 use Rattle.station.proofs.Ropes.{step_refused, step_moved}

@@ -1,8 +1,6 @@
 -- `session_of` meets its contract.
-use mathlib.Core.Path.{◌≡◌, sym, ap, ◌∙◌}
+use mathlib.Core.Path.{sym, ◌∙◌}
 use native.Mathlib.Omega.{arith}
-use lib.ListN.{length}
-use Rattle.basis.specs.Order.{refused}
 use Rattle.station.specs.Words.{session_of}
 use Rattle.station.proofs.Outcomes.{passed_on}
 use Rattle.station.proofs.Sessions.{not_nine, no_width, no_height, no_carriers, are_session}
