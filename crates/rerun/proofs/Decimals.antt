@@ -24,7 +24,8 @@ same_to zero n some within h = absurd (omega arith)
 same_to (suc most) n some within h = go (ltb n 10) refl (same_to most (n / 10))
   where
     go : (t : Bool) → ltb n 10 ≡ t
-        → (1 ≤ most → n / 10 < 10 ^ most → n / 10 < 2 ^ 64 → written (n / 10) ≡ decimal_to most (n / 10))
+        → (1 ≤ most → n / 10 < 10 ^ most → n / 10 < 2 ^ 64
+        → written (n / 10) ≡ decimal_to most (n / 10))
         → written n ≡ decimal_to (suc most) n
     go true e next = rw e (decimal_digit n (ltb-true _ _ e))
     go false e next =
@@ -33,7 +34,8 @@ same_to (suc most) n some within h = go (ltb n 10) refl (same_to most (n / 10))
         let more = fewer most n great within in
         rw e
         (decimal_step n great h
-        ∙ ap (λ (l : List ℕ). l ++ ((48 + n % 10) ∷ [])) (next more (omega (arith, up)) (omega arith)))
+        ∙ ap (λ (l : List ℕ). l ++ ((48 + n % 10) ∷ []))
+        (next more (omega (arith, up)) (omega arith)))
 
 -- Any u64 has at most 20 digits.
 pub same : (n : ℕ) → n < 2 ^ 64 → written n ≡ decimal n

@@ -83,8 +83,8 @@ program =
     }
 
 pub examples : Examples
-unfolding program_order answer sound_log read_order limits_order well_formed record_of precedes steps_past
-    run step_all step_to step_one carrier words_of put free_for start_to lever_at size_of
-    step new_speed push_of cut_speed brake slide distance walk clear_on toward free no_wall covers share
-    wall every decimal_to word_text lines_of line_of ascii
+unfolding program_order answer sound_log read_order limits_order well_formed record_of precedes
+    steps_past run step_all step_to step_one carrier words_of put free_for start_to lever_at
+    size_of step new_speed push_of cut_speed brake slide distance walk clear_on toward free
+    no_wall covers share wall every decimal_to word_text lines_of line_of ascii
 examples = record { brake = refl; empty = refl; refused = refl }

@@ -1,5 +1,6 @@
 -- What is claimed of the program. proofs/Statements.antt proves each record whole.
-use Rattle.std.specs.Prelude.{ℕ, ◌+◌, ◌<◌, ◌≤◌, ◌≡◌, true, false, List, [], ◌∷◌, ◌++◌, ℤ, length, take}
+use Rattle.std.specs.Prelude.{ℕ, ◌+◌, ◌<◌, ◌≤◌, ◌≡◌, true, false, List, [], ◌∷◌, ◌++◌, ℤ}
+use Rattle.std.specs.Prelude.{length, take}
 use Rattle.basis.specs.Numbers.{LOG, most_steps}
 use Rattle.basis.specs.Order.{refused, accepted, answer}
 use Rattle.record.specs.Buffer.{buffer_size}

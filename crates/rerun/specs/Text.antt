@@ -1,5 +1,6 @@
 -- Document 01, 'The program': the lines that it writes, as bytes of ASCII.
-use Rattle.std.specs.Prelude.{ℕ, zero, suc, ◌+◌, ◌/◌, ◌%◌, cond, List, [], ◌∷◌, ◌++◌, flat_map, ltb, ℤ, pos, negsuc}
+use Rattle.std.specs.Prelude.{ℕ, zero, suc, ◌+◌, ◌/◌, ◌%◌, cond, List, [], ◌∷◌, ◌++◌, flat_map}
+use Rattle.std.specs.Prelude.{ltb, ℤ, pos, negsuc}
 use Rattle.basis.specs.Order.{Answer, refused, accepted}
 use Rattle.rerun.specs.declared.ended.Ended.{Ended}
 use Rattle.rerun.specs.Ascii.{ascii}

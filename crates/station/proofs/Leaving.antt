@@ -38,7 +38,8 @@ module _ {A : Type 0} (number-of : A → ℕ) (session-of : A → Session) (word
 
     leaving : (b : Answer (Made A)) {a : Answer A} {state rows : List ℤ} {log : List ℕ}
         → made a state rows log ≡ sessionLeaves l b
-        → as_left number-of session-of words a state rows log ≡ leaves_by number-of session-of l words b
+        → as_left number-of session-of words a state rows log
+        ≡ leaves_by number-of session-of l words b
     leaving b e =
         ap
         (λ (x : Made (Answer A)). as_left number-of session-of words x.result x.state x.rows x.log)
@@ -62,7 +63,8 @@ module _ {A : Type 0} (number-of : A → ℕ) (session-of : A → Session) (word
         ≡ leaves_by number-of session-of l words
         (answer (check (nine words) FAULT (order (session_of words))))
     read_left order {s} read e =
-        let decides : answer (check (nine words) FAULT (order (session_of words))) ≡ answer (order s) =
+        let decides : answer (check (nine words) FAULT (order (session_of words)))
+        ≡ answer (order s) =
         passes _ _ (read_nine words read) ∙ ap (λ x. answer (order x)) (read_session words read) in
         leaving (answer (order s)) e ∙ sym (ap (leaves_by number-of session-of l words) decides)
 
@@ -104,7 +106,8 @@ module _ (bytes : List ℕ) (l : Lent) (words : List ℕ) where
       ≡ leaves_delivered l words (answer (deliver_face bytes l words))
   unfolding deliver_face
   deliver_left read e =
-      read_left (λ delivery. delivery.number) (λ delivery. delivery.session) words l (λ s. deliver_order s l bytes) read e
+      read_left (λ delivery. delivery.number) (λ delivery. delivery.session) words l
+      (λ s. deliver_order s l bytes) read e
 
 -- Opening tests the ranges first, and the face does so too.
 module _ (yard : Yard) (t : ℕ) (l : Lent) (words : List ℕ) where

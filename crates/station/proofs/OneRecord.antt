@@ -41,7 +41,8 @@ module _ (step carrier lever : ℕ) (out : List ℕ) where
     unfolding write_record_face
     eight h = goes_on _ _ e ∙ passes _ _ (eq-eqb _ _ h) ∙ gives _
 
-  pub write_refused : {number : ℕ} → refused number ≡ written (answer (write_order step carrier lever))
+  pub write_refused : {number : ℕ}
+      → refused number ≡ written (answer (write_order step carrier lever))
       → answer (write_record_face step carrier lever out) ≡ refused number
   unfolding write_record_face
   write_refused {number} q = go (answer (write_order step carrier lever)) refl q

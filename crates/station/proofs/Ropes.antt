@@ -34,7 +34,8 @@ module _ (kinds : List ℕ) (i : ℕ) (h : i < length kinds) where
   unfolding kinds_hold
   kind_fails bad = ap kinds_hold next_kind ∙ rw (lt-leb (get_or kinds i 0) 2 bad)
 
-  pub kind_holds : get_or kinds i 0 ≤ 2 → kinds_hold (drop i kinds) ≡ kinds_hold (drop (i + 1) kinds)
+  pub kind_holds : get_or kinds i 0 ≤ 2
+      → kinds_hold (drop i kinds) ≡ kinds_hold (drop (i + 1) kinds)
   unfolding kinds_hold
   kind_holds good = ap kinds_hold next_kind ∙ rw (le-leb (get_or kinds i 0) 2 good)
 
@@ -140,7 +141,8 @@ module _ (kinds : List ℕ) (numbers point : List Float) where
       unfolding forces_order
       not_made {number} e = go (kinds_hold kinds) refl
         where
-          go : (t : Bool) → kinds_hold kinds ≡ t → answer (rope_face kinds numbers point) ≡ refused number
+          go : (t : Bool) → kinds_hold kinds ≡ t
+              → answer (rope_face kinds numbers point) ≡ refused number
           go true known = apart (sym e ∙ passes _ _ known ∙ gives _)
           go false none =
               let same : ROPE ≡ number = cc (sym e ∙ fails _ _ none) in
@@ -160,15 +162,18 @@ module _ (kinds : List ℕ) (numbers point : List Float) where
                   (λ next. give (next.place ∷ next.speed ∷ [])))
               go false none = apart (sym (fails _ _ none) ∙ made)
               go true known =
-                  let same : forces_of kinds numbers ≡ forces = given _ (sym (passes _ _ known) ∙ made) in
+                  let same : forces_of kinds numbers ≡ forces =
+                  given _ (sym (passes _ _ known) ∙ made) in
                   let long : length kinds ≡ length forces =
                   sym (forces_length kinds numbers) ∙ ap length same in
                   steps known ∙ rw (same, long)
 
-          pub step_refused : {number : ℕ} → answer (rope_order (point_of point) forces (length forces)) ≡ refused number
+          pub step_refused : {number : ℕ}
+              → answer (rope_order (point_of point) forces (length forces)) ≡ refused number
               → answer (rope_face kinds numbers point) ≡ refused number
           step_refused e = decides ∙ stops _ _ e
 
-          pub step_moved : {next : Point} → answer (rope_order (point_of point) forces (length forces)) ≡ accepted next
+          pub step_moved : {next : Point}
+              → answer (rope_order (point_of point) forces (length forces)) ≡ accepted next
               → answer (rope_face kinds numbers point) ≡ accepted (next.place ∷ next.speed ∷ [])
           step_moved e = decides ∙ goes_on _ _ e ∙ gives _

@@ -90,10 +90,10 @@ module _ (words : List ℕ) where
   unfolding words_fit session_of
   sound_fit l n e =
       let ranges = (good (session_of words) l e).ranges in
-      let w : get_or words 0 0 < 2 ^ 32 = omega (arith, width_most (session_of words).yard ranges) in
-      let h : get_or words 1 0 < 2 ^ 32 = omega (arith, height_most (session_of words).yard ranges) in
-      let b : get_or words 2 0 < 2 ^ 32 =
-      omega (arith, carriers_most (session_of words).yard ranges) in
+      let yard = (session_of words).yard in
+      let w : get_or words 0 0 < 2 ^ 32 = omega (arith, width_most yard ranges) in
+      let h : get_or words 1 0 < 2 ^ 32 = omega (arith, height_most yard ranges) in
+      let b : get_or words 2 0 < 2 ^ 32 = omega (arith, carriers_most yard ranges) in
       and_both (and_both (and_both n (lt-ltb _ _ w)) (lt-ltb _ _ h)) (lt-ltb _ _ b)
 
   -- The first two tests of a call with a session, where its words aren't read.

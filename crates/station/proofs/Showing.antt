@@ -40,7 +40,8 @@ module _ {A B : Type 0} (count : ℕ) (out : List B) (words : List ℕ) (parts :
     unfolding shows and_then
     shows_unread l rest e = passes _ _ (eq-eqb _ _ long) ∙ unread words l _ e
 
-    module _ (order : Session → Order A) {s : Session} (read : answer (words_order words) ≡ accepted s)
+    module _ (order : Session → Order A) {s : Session}
+        (read : answer (words_order words) ≡ accepted s)
       where
         decides : answer (shows count out words (order (session_of words)) parts)
             ≡ answer (and_then (order s) (λ a. give (parts a)))

@@ -1,6 +1,6 @@
 -- `wuthracomb_rope_step`: a rope end as two f64, its forces as kinds and numbers (02 §8).
-use Rattle.std.specs.Prelude.{ℕ, ◌*◌, ◌<◌, ◌≡◌, Bool, true, cond, ◌&&◌, List, [], ◌∷◌, leb, eqb, Float, length}
-use Rattle.std.specs.Prelude.{take, drop, get_or, Result, Ok, Err, MatchResult}
+use Rattle.std.specs.Prelude.{ℕ, ◌*◌, ◌<◌, ◌≡◌, Bool, true, cond, ◌&&◌, List, [], ◌∷◌, leb, eqb}
+use Rattle.std.specs.Prelude.{Float, length, take, drop, get_or, Result, Ok, Err, MatchResult}
 use Rattle.std.specs.Float.{nan}
 use Rattle.basis.specs.Numbers.{ROOM, ROPE}
 use Rattle.basis.specs.Order.{Answer, refused, accepted, Order, check, give, and_then}

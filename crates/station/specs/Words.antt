@@ -1,6 +1,6 @@
 -- The session of the C face: nine words, w, h, b, first, last, remainder, cut, steps, held.
-use Rattle.std.specs.Prelude.{ℕ, ◌^◌, ◌<◌, ◌≤◌, ◌≡◌, Bool, ◌&&◌, List, [], ◌∷◌, ltb, eqb, get_or, length}
-use Rattle.std.specs.Prelude.{Result, MatchResult}
+use Rattle.std.specs.Prelude.{ℕ, ◌^◌, ◌<◌, ◌≤◌, ◌≡◌, Bool, ◌&&◌, List, [], ◌∷◌, ltb, eqb}
+use Rattle.std.specs.Prelude.{get_or, length, Result, MatchResult}
 use Rattle.basis.specs.Numbers.{FAULT}
 use Rattle.basis.specs.Order.{Order, check, give}
 use Rattle.basis.specs.declared.Refusal.{Refusal}

@@ -16,7 +16,9 @@ pub returns-in_err-small : goal.returns-in_err-small
 returns-in_err-small c =
     let bad = c.in_err-small.ensures.small in
     record {
-      session = passed_on _ _ c.from_residual.ensures.1 ∙ rw bad.1 (sym (no_width _ (omega arith) bad.0));
+      session =
+          passed_on _ _ c.from_residual.ensures.1
+          ∙ rw bad.1 (sym (no_width _ (omega arith) bad.0));
     }
 
 pub returns-in_err-small-2 : goal.returns-in_err-small-2
