@@ -50,7 +50,7 @@ pub fn session_of(words: &[u64]) -> Result<Session, Refusal>
 
 // The nine words of a session.
 #[tactic(auto, unfolding(crate::specs::Words::session_words))]
-pub fn words_of(session: Session) -> [u64; 9]
+pub fn words_of(session: Session) -> [u64; Words::COUNT]
     ensures words { result ≡ session_words session }
 {
     let Session { yard, clock, held } = session;
