@@ -1,29 +1,40 @@
--- `forces_of` meets its contract. The loop's invariant: the forces put into the array, and those
--- from `i` on, are all of them.
-use mathlib.Core.Path.{refl, sym, ◌∙◌}
+-- `forces_of` meets its contract.
+use mathlib.Core.Path.{sym, ◌∙◌}
+use native.Mathlib.Omega.{arith}
 use lib.ListN.{length-set}
-use Rattle.station.proofs.Ropes.{force_put, all_put}
-use borrow.Author.Rules.{rules}
+use Rattle.std.proofs.lemmas.Result.{err_from_is_err_and}
+use Rattle.station.proofs.Ropes.{kind_holds, force_put, unknown_kind, all_known}
 use Rattle.station.proofs.rope_ends.forces_of.Goals as goal
 
-pub loop-i-init : goal.loop-i-init
-loop-i-init c = (search rules, refl, refl)
+pub returns-in_err-kind : goal.returns-in_err-kind
+returns-in_err-kind c =
+    let p = err_from_is_err_and c.from_residual.result c.from_residual.ensures.1 in
+    record {
+      forces =
+          rw (p.1, p.2, c.in_err-kind.ensures.1)
+          (sym
+          (unknown_kind _ _ _ c.loop-i-test.true c.in_err-kind.ensures.0 c.loop-i.invariant.known));
+    }
 
 pub loop-i-preserved : goal.loop-i-preserved
 loop-i-preserved c =
-    let a = c.args in
-    let kinds = a.kinds.now in
-    let numbers = a.numbers.now in
-    let array = c.loop-i.forces in
-    let put = force_put kinds c.loop-i.i (search rules) numbers array (search rules) in (
-      search rules,
-      simp length-set c.loop-i.invariant.1,
-      rw c.force_of.ensures.force (sym put ∙ c.loop-i.invariant.2),
-    )
+    let l = c.loop-i in
+    let kinds = c.args.kinds.now in
+    record {
+      room = simp length-set l.invariant.room;
+      known =
+          l.invariant.known
+          ∙ kind_holds kinds l.i c.loop-i-test.true (grind (arith, c.in_ok-kind.ensures));
+      put =
+          rw (c.force.ensures.force, c.in_ok-kind.ensures)
+          (sym (force_put kinds l.i c.loop-i-test.true c.args.numbers.now l.forces (omega arith))
+          ∙ l.invariant.put);
+    }
 
 pub returns : goal.returns
 returns c =
     record {
       forces =
-          all_put _ _ _ _ c.loop-i-test.false c.loop-i.invariant.0 c.loop-i.invariant.2;
+          all_known _ _ _ c.loop-i-test.false c.loop-i.auto.i-end _ c.loop-i.invariant.known
+          c.loop-i.invariant.put;
     }
