@@ -36,3 +36,11 @@ pub one_stored : {A : Type 0} (d : List A) (a : A) → length d ≡ 1 → set d 
 one_stored [] a e = absurd (omega arith)
 one_stored (x ∷ []) a e = refl
 one_stored (x ∷ y ∷ d) a e = absurd (omega arith)
+
+-- Two elements stored in a slice of two.
+pub two_stored : {A : Type 0} (d : List A) (a b : A) → length d ≡ 2
+    → set (set d 0 a) 1 b ≡ a ∷ b ∷ []
+two_stored [] a b e = absurd (omega arith)
+two_stored (x ∷ []) a b e = absurd (omega arith)
+two_stored (x ∷ y ∷ []) a b e = refl
+two_stored (x ∷ y ∷ z ∷ d) a b e = absurd (omega arith)

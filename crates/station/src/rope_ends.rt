@@ -79,7 +79,9 @@ fn step_in(kinds: &[u32], numbers: &[f64], words: &mut [f64]) -> Result<u32, Ref
     }
     let forces = forces_of(kinds, numbers)?;
     let next = Point { place, speed }.step(&forces[..kinds.len()])?;
-    words.copy_from_slice(&[next.place, next.speed]);
+    // Word by word: the next step reads them so, and one wide store would hold it up.
+    words[0] = next.place;
+    words[1] = next.speed;
     Ok(Face::DONE)
 }
 

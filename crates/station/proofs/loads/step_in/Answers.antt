@@ -12,7 +12,7 @@ use Rattle.basis.proofs.Order.{fails}
 use Rattle.basis.proofs.Signed.{got}
 use Rattle.station.specs.Face.{load_step_face}
 use Rattle.station.proofs.Loading.{load_refused, load_moved}
-use Rattle.station.proofs.Outcomes.{told_on, refused_fills, given_fills}
+use Rattle.station.proofs.Outcomes.{told_on, refused_fills, given_fills, two_stored}
 use Rattle.station.proofs.loads.step_in.Goals as goal
 
 pub returns-in_default : goal.returns-in_default
@@ -50,7 +50,7 @@ returns c =
     let after = c.in_ok-after.after in
     record {
       stepped =
-          rw c.copy_from_slice.ensures.after
-          (simp (got after.x (search rules), got after.v (search rules))
+          simp (got after.x (search rules), got after.v (search rules))
+          (rw (two_stored words after.x after.v two)
           (given_fills _ (load_moved _ _ two (sym stepped))));
     }

@@ -1,7 +1,8 @@
 -- `step_in` meets its contract.
-use mathlib.Core.Path.{sym}
+use mathlib.Core.Path.{◌≡◌, sym}
+use lib.ListN.{length}
 use native.Mathlib.Omega.{arith}
-use Rattle.station.proofs.Outcomes.{told_on, refused_fills, given_fills}
+use Rattle.station.proofs.Outcomes.{told_on, refused_fills, given_fills, two_stored}
 use Rattle.station.proofs.Ropes.{wrong_numbers, wrong_point, too_many_kinds, not_made}
 use Rattle.station.proofs.Ropes.{step_refused, step_moved}
 use Rattle.station.proofs.rope_ends.step_in.Goals as goal
@@ -52,9 +53,11 @@ returns-in_err-next c =
 
 pub returns : goal.returns
 returns c =
+    let next = c.in_ok-next.next in
+    let two : length c.args.words.now ≡ 2 = omega arith in
     record {
       stepped =
-          rw c.copy_from_slice.ensures.after
+          rw (two_stored c.args.words.now next.place next.speed two)
           (given_fills _
           (step_moved _ _ _ c.if-numbers-kinds.false (omega arith)
           (sym c.in_ok-forces.ensures.forces) (sym c.in_ok-next.ensures.stepped)));
