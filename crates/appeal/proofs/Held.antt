@@ -6,6 +6,7 @@ use mathlib.Core.Logic.{◌↔◌, ◌⊎◌, inl, inr, ⊎_elim, ⊎_map}
 use mathlib.Core.Bool.{Bool, true, false, cond}
 use mathlib.Core.List.{List, [], ◌∷◌, Memᴰ}
 use lib.ListN.{length, take}
+use Rattle.std.specs.Prelude.{Ok}
 use Rattle.basis.specs.Filled.{filled}
 use Rattle.basis.specs.LittleEndian.{Bytes}
 use Rattle.basis.specs.Numbers.{most_carriers}
@@ -22,7 +23,6 @@ use Rattle.merge.specs.Calls.{merge_leaves}
 use Rattle.merge.specs.Facts.{Mergeable}
 use Rattle.merge.specs.Merge.{merge, both_of, agree}
 use Rattle.merge.specs.Says.{MergeLogsSays}
-use Rattle.merge.specs.declared.Merged.TheVariants as merged
 use Rattle.merge.proofs.Alike.{its_fine, its_records, its_log}
 use Rattle.merge.proofs.Fine.{Fine, fine_merge, logged, log_is_sound}
 use Rattle.merge.proofs.Holds.{Differs, exactly, agree_not}
@@ -98,7 +98,7 @@ module _ (world : World) (opens : Opens world) where
 
   pub ends : (s : Session (model world)) → Kept s → (one two before : List ℕ) (count : ℕ)
       (after : List ℕ) → Bytes one → Bytes two
-      → MergeLogsSays world.yard.b one two before (filled (merged.Count count) after)
+      → MergeLogsSays world.yard.b one two before (filled (Ok count) after)
       → ((r : Record) → Memᴰ r (held_by (handed world s)) ↔ Memᴰ r (records count after))
       → EndsAsReplay world (handed world s) (take (8 * count) after)
   ends s k one two before count after b c says same state long =
@@ -146,7 +146,7 @@ module _ (world : World) (opens : Opens world) where
     pub merged_as : (before : List ℕ) → length before ≡ buffer_size
         → merge_leaves before (said world.yard.b (length before) (log_of s.log)
         (log_of t.log))
-        ≡ filled (merged.Count (length u.log)) (buffer_of u.log)
+        ≡ filled (accepted (length u.log)) (buffer_of u.log)
     merged_as before long =
         let one : records_of (log_of s.log) ≡ s.log = logged (fine s k) in
         let two : records_of (log_of t.log) ≡ t.log = logged (fine t l) in

@@ -107,6 +107,6 @@ pub replay_iff : (state : List ℤ) (a : Answer (List ℤ))
     → told this ≡ replay_leaves state b
     → (out ≡ this) ↔ (a ≡ b)
 replay_iff state a out says this b alike = (
-  λ e. replay_one state a b (sym says ∙ ap told e ∙ leaves),
+  λ e. replay_one state a b (sym says ∙ ap told e ∙ alike),
   λ e. told_one out this (says ∙ ap (replay_leaves state) e ∙ sym alike),
 )

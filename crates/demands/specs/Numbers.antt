@@ -1,6 +1,7 @@
 -- 'each given exactly when its rule says' (demand 1): the numbers of each call of `session`, one
 -- field a number, in plain facts. On the left what comes out, all lent as before; on the right what
--- has passed, in document 01's order, and last what fails. No test stands among them.
+-- has passed, in document 01's order, and last what fails. No test stands among them. The number of
+-- each refusal is `number_of` in basis: that of `why.World` is 9.
 use Rattle.std.specs.Prelude.{ℕ, ◌+◌, ◌-◌, ◌<◌, ◌≤◌, ◌≡◌, ◌↔◌, ◌⊎◌, ◌≢◌, List, ℤ, Result, Ok, Err}
 use Rattle.basis.specs.Filled.{Filled, filled}
 use Rattle.basis.specs.declared.Refusal.{Refusal}

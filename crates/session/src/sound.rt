@@ -1,7 +1,8 @@
 // Is a session sound, with all that is lent (document 01, '*Sound* means').
 
-ghost use Rattle.std.specs.Prelude.{◌≡◌, true};
+ghost use Rattle.std.specs.Prelude.{◌≡◌};
 ghost use Rattle.fleet.specs.State.{sound_state};
+ghost use Rattle.fleet.specs.Fits.{RowsFit, WorldFits};
 ghost use Rattle.session.specs.Lent.{lent_in, world_in};
 ghost use Rattle.session.specs.Calls.{row_in};
 ghost use Rattle.session.specs.Sound.{sound};
@@ -32,9 +33,10 @@ impl Session {
             .state_sound(lent.state)
     }
 
-    // Is the row saved before step t sound, by the same rule; of a sound session.
+    // Is the row saved before step t sound, by the same rule.
     pub(super) fn row_sound(self, lent: Buffers, t: u32) -> bool
-        requires sound { sound self (lent_in lent) ≡ true }
+        requires world { WorldFits (world_in self (lent_in lent)) }
+        requires room { RowsFit (world_in self (lent_in lent)) lent.rows.now }
         ensures rule { result ≡ sound_state (world_in self (lent_in lent.entry))
             (row_in self (lent_in lent.entry) t) }
     {
