@@ -41,7 +41,8 @@ use Rattle.session.specs.declared.Session.{Session}
 use Rattle.session.proofs.Deliveries.{place_order}
 use Rattle.session.proofs.Facts.{lengths_fit, room_fits, sound_means}
 use Rattle.session.proofs.Good.{good}
-use Rattle.station.specs.Face.{open_face, reading_face, deliver_face, digest_face, shown_face, shows}
+use Rattle.station.specs.Face.{open_face, reading_face, deliver_face, digest_face, shown_face}
+use Rattle.station.specs.Face.{shows}
 use Rattle.station.specs.Face.{step_records_face, read_record_face, write_record_face}
 use Rattle.station.specs.Left.{Left, left, fills, leaves_running, leaves_delivered}
 use Rattle.station.specs.Says.{LogSoundSays, DeliverSays}
@@ -232,7 +233,8 @@ row_before s l sound = go (eqb s.clock.steps 0) refl
         (λ q. (made, f.0 q), λ h. f.1 h.1)
 
 pub open_by : (yard : Yard) (t : ℕ) (l : Lent) (words : List ℕ)
-    → By 2 all_done (λ m. m ≡ opened yard t l) (open_face yard t l words) (open_numbers yard l words)
+    → By 2 all_done (λ m. m ≡ opened yard t l) (open_face yard t l words)
+    (open_numbers yard l words)
 unfolding open_face open_order world_order and_then
 open_by yard t l words =
     rung refl (else_fact _ (ranges yard)) λ fit.
@@ -271,8 +273,9 @@ deliver_by bytes l words are =
     (inr (refl, eqb-true _ _ nine)) (inl refl)
 
 pub exactly_when : ExactlyWhen
-unfolding replay_order world_order digest_face digest_order shown_face shown_order shows step_records_face
-    read_record_face write_record_face read_order write_order limits_order and_then
+unfolding replay_order world_order digest_face digest_order shown_face shown_order shows
+    step_records_face read_record_face write_record_face read_order write_order limits_order
+    and_then
 exactly_when =
     record {
       opens = λ yard t l words out says. opened_by l words out _ says (open_by yard t l words);
