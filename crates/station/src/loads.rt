@@ -17,7 +17,8 @@ fn step_in(stiffness: u32, words: &mut [i32]) -> Result<u32, Refusal>
         return Err(Refusal::Room);
     };
     let after = Load { x, v }.step(stiffness)?;
-    words.copy_from_slice(&[after.x, after.v]);
+    words[0] = after.x;
+    words[1] = after.v;
     Ok(Face::DONE)
 }
 
