@@ -1,13 +1,14 @@
 -- What a part answers, as the C face tells it; and what is told fills one slice.
-use Prim.Native.Nat.{ℕ}
-use mathlib.Core.Path.{◌≡◌, refl, sym, ap}
-use mathlib.Core.List.{List, [], ◌∷◌}
+use Prim.Native.Nat.{ℕ, ◌+◌, ◌≤◌}
+use mathlib.Core.Path.{◌≡◌, refl, sym, ap, ◌∙◌}
+use mathlib.Core.List.{List}
 use native.Mathlib.Omega.{arith}
-use lib.ListN.{length, set}
+use lib.ListN.{length}
 use Rattle.std.specs.Prelude.{Result, IsErrAnd}
 use Rattle.std.proofs.lemmas.Result.{err_from_is_err_and}
 use Rattle.basis.specs.Filled.{filled}
 use Rattle.basis.specs.Order.{Answer, refused, accepted}
+use Rattle.basis.proofs.Lists.{stored, stored_all, paste_all}
 use Rattle.basis.specs.Refusal.{number_of, answer_of}
 use Rattle.basis.specs.declared.Refusal.{Refusal}
 use Rattle.station.specs.Left.{fills, DONE}
@@ -31,16 +32,15 @@ module _ {A : Type 0} (before : List A) {a : Answer (List A)} where
   pub given_fills : {after : List A} → a ≡ accepted after → filled DONE after ≡ fills before a
   given_fills e = sym (ap (fills before) e)
 
--- One element stored in a slice of one.
-pub one_stored : {A : Type 0} (d : List A) (a : A) → length d ≡ 1 → set d 0 a ≡ a ∷ []
-one_stored [] a e = absurd (omega arith)
-one_stored (x ∷ []) a e = refl
-one_stored (x ∷ y ∷ d) a e = absurd (omega arith)
+-- Elements stored one after the other over a slice of as many.
+pub stores : {A : Type 0} (d s : List A) → length d ≡ length s → stored d 0 0 s ≡ s
+stores d s e =
+    let room : 0 + length s ≤ length d = omega (arith, e) in
+    stored_all d 0 s room ∙ paste_all d s (length s) e refl
 
--- Two elements stored in a slice of two.
-pub two_stored : {A : Type 0} (d : List A) (a b : A) → length d ≡ 2
-    → set (set d 0 a) 1 b ≡ a ∷ b ∷ []
-two_stored [] a b e = absurd (omega arith)
-two_stored (x ∷ []) a b e = absurd (omega arith)
-two_stored (x ∷ y ∷ []) a b e = refl
-two_stored (x ∷ y ∷ z ∷ d) a b e = absurd (omega arith)
+-- What a call gives, stored so in its slice.
+pub stored_fills : {A : Type 0} (before parts : List A) {a : Answer (List A)}
+    → length before ≡ length parts → a ≡ accepted parts
+    → filled DONE (stored before 0 0 parts) ≡ fills before a
+stored_fills before parts e given =
+    ap (filled DONE) (stores before parts e) ∙ given_fills before given

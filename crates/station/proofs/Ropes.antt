@@ -19,7 +19,7 @@ use Rattle.rope.specs.declared.Force.{Force}
 use Rattle.rope.proofs.Steps.{too_many}
 use Rattle.station.specs.Ropes.{kinds_hold, force_of, forces_of, forces_order, point_of, rope_face}
 
--- One more element, put into an array behind those that are in it already.
+-- One more element, put behind those that are in it already.
 put_behind : {A : Type 0} (array : List A) (i : ℕ) (a : A) (rest : List A) → i < length array
     → take i array ++ (a ∷ rest) ≡ take (i + 1) (set array i a) ++ rest
 put_behind array i a rest room =
@@ -56,7 +56,7 @@ module _ (kinds : List ℕ) (i : ℕ) (h : i < length kinds) where
         two,
       )
 
-  -- Put behind those that are in the array already.
+  -- Put behind those that are there already.
   pub force_put : (numbers : List Float) (forces : List Force) → i < length forces
       → take i forces ++ forces_of (drop i kinds) (drop (2 * i) numbers)
       ≡ take (i + 1)
@@ -66,7 +66,7 @@ module _ (kinds : List ℕ) (i : ℕ) (h : i < length kinds) where
   force_put numbers forces room =
       ap (λ l. take i forces ++ l) (next_force numbers) ∙ put_behind forces i _ _ room
 
--- A kind that is none, and all of them put into an array.
+-- A kind that is none, and all of them put in.
 module _ (kinds : List ℕ) (numbers : List Float) (i : ℕ) where
   pub unknown_kind : i < length kinds → 2 < get_or kinds i 0
       → kinds_hold kinds ≡ kinds_hold (drop i kinds)
@@ -75,15 +75,15 @@ module _ (kinds : List ℕ) (numbers : List Float) (i : ℕ) where
   unknown_kind h bad e = fails _ _ (e ∙ kind_fails kinds i h bad)
 
   pub all_known : length kinds ≤ i → i ≤ length kinds → (forces : List Force)
-      → kinds_hold kinds ≡ kinds_hold (drop i kinds)
+      → length forces ≡ length kinds → kinds_hold kinds ≡ kinds_hold (drop i kinds)
       → take i forces ++ forces_of (drop i kinds) (drop (2 * i) numbers) ≡ forces_of kinds numbers
-      → accepted (take (length kinds) forces) ≡ answer (forces_order kinds numbers)
+      → accepted forces ≡ answer (forces_order kinds numbers)
   unfolding forces_order kinds_hold forces_of
-  all_known low high forces e put =
+  all_known low high forces long e put =
       let end : i ≡ length kinds = omega arith in
       let none : drop i kinds ≡ [] = ap (λ n. drop n kinds) end ∙ drop-length kinds in
-      let all : take (length kinds) forces ≡ forces_of kinds numbers =
-      sym (ap (λ n. take n forces) end)
+      let all : forces ≡ forces_of kinds numbers =
+      sym (take_all i forces (omega arith))
       ∙ sym (append-nil (take i forces))
       ∙ sym (ap (λ l. take i forces ++ forces_of l (drop (2 * i) numbers)) none)
       ∙ put in

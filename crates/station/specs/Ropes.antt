@@ -1,6 +1,6 @@
 -- `wuthracomb_rope_step`: a rope end as two f64, its forces as kinds and numbers (02 §8).
 use Rattle.std.specs.Prelude.{ℕ, ◌*◌, ◌<◌, ◌≡◌, Bool, true, cond, ◌&&◌, List, [], ◌∷◌, leb, eqb}
-use Rattle.std.specs.Prelude.{Float, length, take, drop, get_or, Result, Ok, Err, MatchResult}
+use Rattle.std.specs.Prelude.{Float, length, drop, get_or, Result, Ok, Err, MatchResult}
 use Rattle.std.specs.Float.{nan}
 use Rattle.basis.specs.Numbers.{ROOM, ROPE}
 use Rattle.basis.specs.Order.{Answer, refused, accepted, Order, check, give, and_then}
@@ -49,10 +49,10 @@ KindOf number out =
 unfoldable pub forces_order : List ℕ → List Float → Order (List Force)
 forces_order kinds numbers = check (kinds_hold kinds) ROPE (give (forces_of kinds numbers))
 
--- So many forces at the front of an array, of what the code makes of them.
-abbrev pub first_of : ℕ → Result (List Force) Refusal → Answer (List Force)
-first_of count (Ok forces) = accepted (take count forces)
-first_of count (Err refusal) = refused (number_of refusal)
+-- What the code answers that puts forces into a slice, and what then stands there.
+abbrev pub put_of : Result (Unit {0}) Refusal → List Force → Answer (List Force)
+put_of (Ok done) forces = accepted forces
+put_of (Err refusal) forces = refused (number_of refusal)
 
 -- The rope end in two f64: its place and its speed.
 abbrev pub point_of : List Float → Point

@@ -17,7 +17,6 @@ fn step_in(stiffness: u32, words: &mut [i32]) -> Result<u32, Refusal>
         return Err(Refusal::Room);
     };
     let after = Load { x, v }.step(stiffness)?;
-    // Word by word: the next step reads them so, and one wide store would hold it up.
     words[0] = after.x;
     words[1] = after.v;
     Ok(Face::DONE)

@@ -1,9 +1,9 @@
 // The C face of `rope`.
 
-ghost use Rattle.std.specs.Prelude.{◌≡◌, ◌*◌, ◌≤◌, length};
+ghost use Rattle.std.specs.Prelude.{◌≡◌, ◌*◌, length};
 ghost use Rattle.basis.specs.Filled.{filled};
 ghost use Rattle.basis.specs.Order.{answer};
-ghost use Rattle.station.specs.Ropes.{KindOf, first_of, force_of, forces_order, number_of_kind};
+ghost use Rattle.station.specs.Ropes.{KindOf, force_of, forces_order, number_of_kind, put_of};
 ghost use Rattle.station.specs.Says.{RopeStepSays};
 ghost use Rattle.station.specs.Told.{told_of};
 
@@ -48,19 +48,18 @@ impl Kind {
     }
 }
 
-// The forces of these kinds and numbers, in an array; what lies past them plays no part.
-fn forces_of(kinds: &[u32], numbers: &[f64]) -> Result<[Force; Force::MOST], Refusal>
-    requires few { length kinds.now ≤ 8 }
+// Puts in the forces of these kinds and numbers; 18 where a kind is none. They are not given back in
+// the `Result`, which would copy an array of them.
+fn put_forces(kinds: &[u32], numbers: &[f64], forces: &mut [Force]) -> Result<(), Refusal>
+    requires room { length forces.old ≡ length kinds.now }
     requires two { length numbers.now ≡ 2 * length kinds.now }
-    ensures forces { first_of (length kinds.now) result
-        ≡ answer (forces_order kinds.now numbers.now) }
+    ensures put { put_of result forces.new ≡ answer (forces_order kinds.now numbers.now) }
 {
-    let mut forces = [Force::Pull(0.0); Force::MOST];
     for (i, kind) in kinds.iter().enumerate() {
         let kind = Kind::try_from(*kind)?;
         forces[i] = kind.force(numbers[2 * i], numbers[2 * i + 1]);
     }
-    Ok(forces)
+    Ok(())
 }
 
 // The lengths stand before all that is refused as 18.
@@ -77,9 +76,10 @@ fn step_in(kinds: &[u32], numbers: &[f64], words: &mut [f64]) -> Result<u32, Ref
     if kinds.len() > Force::MOST {
         return Err(Refusal::Rope);
     }
-    let forces = forces_of(kinds, numbers)?;
-    let next = Point { place, speed }.step(&forces[..kinds.len()])?;
-    // Word by word: the next step reads them so, and one wide store would hold it up.
+    let mut room = [Force::Pull(0.0); Force::MOST];
+    let forces = &mut room[..kinds.len()];
+    put_forces(kinds, numbers, forces)?;
+    let next = Point { place, speed }.step(forces)?;
     words[0] = next.place;
     words[1] = next.speed;
     Ok(Face::DONE)

@@ -1,4 +1,5 @@
 -- `step_in` meets its contract.
+use mathlib.Core.List.{[], ◌∷◌}
 use mathlib.Core.Path.{sym}
 use native.Mathlib.Omega.{arith}
 use borrow.Author.Rules.{rules}
@@ -12,7 +13,7 @@ use Rattle.basis.proofs.Order.{fails}
 use Rattle.basis.proofs.Signed.{got}
 use Rattle.station.specs.Face.{load_step_face}
 use Rattle.station.proofs.Loading.{load_refused, load_moved}
-use Rattle.station.proofs.Outcomes.{told_on, refused_fills, given_fills, two_stored}
+use Rattle.station.proofs.Outcomes.{told_on, refused_fills, stored_fills}
 use Rattle.station.proofs.loads.step_in.Goals as goal
 
 pub returns-in_default : goal.returns-in_default
@@ -51,6 +52,5 @@ returns c =
     record {
       stepped =
           simp (got after.x (search rules), got after.v (search rules))
-          (rw (two_stored words after.x after.v two)
-          (given_fills _ (load_moved _ _ two (sym stepped))));
+          (stored_fills words (after.x ∷ after.v ∷ []) two (load_moved _ _ two (sym stepped)));
     }

@@ -1,9 +1,10 @@
 -- `merge_into` meets its contract.
 use mathlib.Core.Path.{sym, ap}
+use mathlib.Core.List.{[], ◌∷◌}
 use Rattle.basis.proofs.Tests.{passed, failed}
 use Rattle.station.specs.Left.{leaves_merged}
 use Rattle.station.proofs.Merging.{wrong_b, wrong_count, merging_leaves}
-use Rattle.station.proofs.Outcomes.{told_on, one_stored}
+use Rattle.station.proofs.Outcomes.{told_on, stores}
 use Rattle.station.proofs.merges.merge_into.Goals as goal
 
 pub returns-then-not-carriers_hold : goal.returns-then-not-carriers_hold
@@ -35,6 +36,6 @@ pub returns : goal.returns
 returns c =
     record {
       merged =
-          rw (one_stored _ _ c.if-count-ne1.false)
+          rw (stores _ (c.in_ok-records.records ∷ []) c.if-count-ne1.false)
           (merging_leaves _ _ _ _ _ _ _ c.if-count-ne1.false c.in_ok-records.ensures.merged);
     }

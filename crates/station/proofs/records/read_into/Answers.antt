@@ -1,7 +1,8 @@
 -- `read_into` meets its contract.
+use mathlib.Core.List.{[], ◌∷◌}
 use mathlib.Core.Path.{sym}
 use Rattle.station.proofs.OneRecord.{read_refused, read_no_room, read_given}
-use Rattle.station.proofs.Outcomes.{told_on, refused_fills, given_fills}
+use Rattle.station.proofs.Outcomes.{told_on, refused_fills, stored_fills}
 use Rattle.station.proofs.records.read_into.Goals as goal
 
 pub returns-in_err-r : goal.returns-in_err-r
@@ -20,8 +21,10 @@ returns-then-out-ne3 c =
 
 pub returns : goal.returns
 returns c =
+    let r = c.in_ok-r.r in
     record {
       read =
-          rw (c.copy_from_slice.ensures.after, c.from.ensures, c.from-2.ensures)
-          (given_fills _ (read_given _ _ (sym c.in_ok-r.ensures.read) c.if-out-ne3.false));
+          rw (c.from.ensures, c.from-2.ensures)
+          (stored_fills _ (r.step ∷ r.carrier ∷ r.lever ∷ []) c.if-out-ne3.false
+          (read_given _ _ (sym c.in_ok-r.ensures.read) c.if-out-ne3.false));
     }

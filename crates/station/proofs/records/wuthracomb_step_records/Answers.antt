@@ -1,9 +1,10 @@
 -- `wuthracomb_step_records` meets its contract.
+use mathlib.Core.List.{[], ◌∷◌}
 use mathlib.Core.Path.{◌∙◌}
 use borrow.Author.Tests.{eq-eqb, ne_eqb}
 use Rattle.basis.proofs.Order.{passes, fails, gives}
 use Rattle.station.specs.Face.{step_records_face}
-use Rattle.station.proofs.Outcomes.{refused_fills, given_fills}
+use Rattle.station.proofs.Outcomes.{refused_fills, stored_fills}
 use Rattle.station.proofs.records.wuthracomb_step_records.Goals as goal
 
 pub returns-then-out-ne2 : goal.returns-then-out-ne2
@@ -16,6 +17,7 @@ unfolding step_records_face
 returns c =
     record {
       part =
-          rw (c.copy_from_slice.ensures.after, c.step_part-part.ensures.part)
-          (given_fills _ (passes _ _ (eq-eqb _ _ c.if-out-ne2.false) ∙ gives _));
+          rw c.step_part-part.ensures.part
+          (stored_fills _ (_ ∷ _ ∷ []) c.if-out-ne2.false
+          (passes _ _ (eq-eqb _ _ c.if-out-ne2.false) ∙ gives _));
     }

@@ -1,8 +1,9 @@
 -- `step_in` meets its contract.
+use mathlib.Core.List.{[], ◌∷◌}
 use mathlib.Core.Path.{◌≡◌, sym}
-use lib.ListN.{length}
 use native.Mathlib.Omega.{arith}
-use Rattle.station.proofs.Outcomes.{told_on, refused_fills, given_fills, two_stored}
+use lib.ListN.{length}
+use Rattle.station.proofs.Outcomes.{told_on, refused_fills, stored_fills}
 use Rattle.station.proofs.Ropes.{wrong_numbers, wrong_point, too_many_kinds, not_made}
 use Rattle.station.proofs.Ropes.{step_refused, step_moved}
 use Rattle.station.proofs.rope_ends.step_in.Goals as goal
@@ -31,14 +32,14 @@ returns-then-kinds-gt-MOST c =
           (too_many_kinds _ _ _ c.if-numbers-kinds.false (omega arith) c.if-kinds-gt-MOST.true);
     }
 
-pub returns-in_err-forces : goal.returns-in_err-forces
-returns-in_err-forces c =
+pub returns-in_err-put_forces : goal.returns-in_err-put_forces
+returns-in_err-put_forces c =
     record {
       stepped =
           rw (told_on _ _ c.from_residual.ensures.1)
           (refused_fills _
           (not_made _ _ _ c.if-numbers-kinds.false (omega arith)
-          (sym c.in_err-forces.ensures.forces)));
+          (sym c.in_err-put_forces.ensures.put)));
     }
 
 pub returns-in_err-next : goal.returns-in_err-next
@@ -48,17 +49,16 @@ returns-in_err-next c =
           rw (told_on _ _ c.from_residual-in_err-next.ensures.1)
           (refused_fills _
           (step_refused _ _ _ c.if-numbers-kinds.false (omega arith)
-          (sym c.in_ok-forces.ensures.forces) (sym c.in_err-next.ensures.stepped)));
+          (sym c.in_ok-put_forces.ensures.put) (sym c.in_err-next.ensures.stepped)));
     }
 
 pub returns : goal.returns
 returns c =
-    let next = c.in_ok-next.next in
     let two : length c.args.words.now ≡ 2 = omega arith in
+    let next = c.in_ok-next.next in
     record {
       stepped =
-          rw (two_stored c.args.words.now next.place next.speed two)
-          (given_fills _
-          (step_moved _ _ _ c.if-numbers-kinds.false (omega arith)
-          (sym c.in_ok-forces.ensures.forces) (sym c.in_ok-next.ensures.stepped)));
+          stored_fills _ (next.place ∷ next.speed ∷ []) two
+          (step_moved _ _ _ c.if-numbers-kinds.false two
+          (sym c.in_ok-put_forces.ensures.put) (sym c.in_ok-next.ensures.stepped));
     }

@@ -1,7 +1,8 @@
 -- `digest_into` meets its contract.
 use mathlib.Core.Path.{sym}
+use mathlib.Core.List.{[], ◌∷◌}
 use Rattle.session.specs.Lent.{lent_in}
-use Rattle.station.proofs.Outcomes.{told_on, refused_fills, given_fills, one_stored}
+use Rattle.station.proofs.Outcomes.{told_on, refused_fills, stored_fills}
 use Rattle.station.proofs.Showing.{digest_room, digest_unread, digest_refused, digest_given}
 use Rattle.station.proofs.show.digest_into.Goals as goal
 
@@ -32,8 +33,7 @@ pub returns : goal.returns
 returns c =
     record {
       digested =
-          rw (one_stored _ _ c.if-out-ne1.false)
-          (given_fills _
+          stored_fills _ (c.in_ok-out.field-0 ∷ []) c.if-out-ne1.false
           (digest_given (lent_in c.args.lent) _ _ c.if-out-ne1.false
-          (sym c.in_ok-session.ensures.session) (sym c.in_ok-out.ensures.digested)));
+          (sym c.in_ok-session.ensures.session) (sym c.in_ok-out.ensures.digested));
     }

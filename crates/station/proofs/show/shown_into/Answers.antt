@@ -1,7 +1,8 @@
 -- `shown_into` meets its contract.
+use mathlib.Core.List.{[], ◌∷◌}
 use mathlib.Core.Path.{sym}
 use Rattle.session.specs.Lent.{lent_in}
-use Rattle.station.proofs.Outcomes.{told_on, refused_fills, given_fills}
+use Rattle.station.proofs.Outcomes.{told_on, refused_fills, stored_fills}
 use Rattle.station.proofs.Showing.{shown_room, shown_unread, shown_refused, shown_given}
 use Rattle.station.proofs.show.shown_into.Goals as goal
 
@@ -30,10 +31,10 @@ returns-in_err-place c =
 
 pub returns : goal.returns
 returns c =
+    let place = c.in_ok-place.place in
     record {
       shown =
-          rw c.copy_from_slice.ensures.after
-          (given_fills _
+          stored_fills _ (place.x ∷ place.y ∷ []) c.if-out-ne2.false
           (shown_given _ (lent_in c.args.lent) _ _ c.if-out-ne2.false
-          (sym c.in_ok-session.ensures.session) (sym c.in_ok-place.ensures.shown)));
+          (sym c.in_ok-session.ensures.session) (sym c.in_ok-place.ensures.shown));
     }

@@ -1,16 +1,16 @@
--- `forces_of` meets its contract.
+-- `put_forces` meets its contract.
 use mathlib.Core.Path.{sym, ◌∙◌}
 use native.Mathlib.Omega.{arith}
 use lib.ListN.{length-set}
 use Rattle.std.proofs.lemmas.Result.{err_from_is_err_and}
 use Rattle.station.proofs.Ropes.{kind_holds, force_put, unknown_kind, all_known}
-use Rattle.station.proofs.rope_ends.forces_of.Goals as goal
+use Rattle.station.proofs.rope_ends.put_forces.Goals as goal
 
 pub returns-in_err-kind : goal.returns-in_err-kind
 returns-in_err-kind c =
     let p = err_from_is_err_and c.from_residual.result c.from_residual.ensures.1 in
     record {
-      forces =
+      put =
           rw (p.1, p.2, c.in_err-kind.ensures.1)
           (sym
           (unknown_kind _ _ _ c.loop-i-test.true c.in_err-kind.ensures.0 c.loop-i.invariant.known));
@@ -34,7 +34,7 @@ loop-i-preserved c =
 pub returns : goal.returns
 returns c =
     record {
-      forces =
-          all_known _ _ _ c.loop-i-test.false c.loop-i.auto.i-end _ c.loop-i.invariant.known
-          c.loop-i.invariant.put;
+      put =
+          all_known _ _ _ c.loop-i-test.false c.loop-i.auto.i-end _ c.loop-i.invariant.room
+          c.loop-i.invariant.known c.loop-i.invariant.put;
     }
