@@ -10,7 +10,7 @@ import os
 import re
 import textwrap
 
-WORD = re.compile(r"[^\s(){},;:.∷→≡×λ]+")
+WORD = re.compile(r"[^\s(){}\[\]<>,;:.∷→≡×λ]+")
 START = re.compile(r"(?:abbrev pub|unfoldable pub|pub record|pub data|pub(?! mod))\s+([^\s:({]+)")
 PROGRAM = re.compile(r"^fn program\(.*?\n\{\n", re.S | re.M)
 HEAD = re.compile(r"^( *)pub fn (\w+)(.*?)\n\1\{\n", re.S | re.M)
