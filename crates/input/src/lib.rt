@@ -13,6 +13,7 @@ pub fn read_input<R: Read>(from: &mut R, buffer: &mut [u8]) -> io::Result<usize>
     ensures read { IfOk result (λ n. n ≤ length buffer.new) }
 {
     let mut n = 0;
+    // `n` is what has been read, and each read says how much more: no index is counted.
     while n < buffer.len() {
         let more = from.read(&mut buffer[n..])?;
         if more == 0 {

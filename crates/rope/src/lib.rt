@@ -26,6 +26,7 @@ pub enum Force {
     Drag(f64),
 }
 
+// Each force is taken apart by `match`, as document 01 asks: it comes as data, also from C.
 impl Force {
     // 'up to eight forces'
     pub const MOST: usize = 8;

@@ -32,6 +32,7 @@ pub use records::{
 pub use rope_ends::wuthracomb_rope_step;
 pub use show::{wuthracomb_digest, wuthracomb_shown};
 
+// The numbers that C is told of an accepted call; those of a refusal are `Refusal`'s.
 #[derive(Drop)]
 struct Face {}
 

@@ -48,8 +48,8 @@ impl Kind {
     }
 }
 
-// Puts in the forces of these kinds and numbers; 18 where a kind is none. They are not given back in
-// the `Result`, which would copy an array of them.
+// Puts in the forces of these kinds and numbers; 18 where a kind is none. They are not given back
+// in the `Result`, which would copy an array of them.
 fn put_forces(kinds: &[u32], numbers: &[f64], forces: &mut [Force]) -> Result<(), Refusal>
     requires room { length forces.old ≡ length kinds.now }
     requires two { length numbers.now ≡ 2 * length kinds.now }

@@ -45,7 +45,7 @@ impl<const WORDS: usize, const ROWS: usize> Desk<WORDS, ROWS> {
         }
     }
 
-    // Opening of any world on the buffers as they are; after a refusal the session is the one before.
+    // Opening of any world on the buffers as they are; a refusal leaves the session before.
     pub fn open_on(
         &mut self,
         yard: Yard,

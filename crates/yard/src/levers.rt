@@ -61,7 +61,8 @@ fn push_of(lever: usize) -> Push
     PUSHES[lever]
 }
 
-// 'old speed plus push, then cut'.
+// 'old speed plus push, then cut'. A speed is a word of the state, any i32 until it is tested: a
+// type for those within 200 would be made and taken apart at every step.
 #[tactic(auto, unfolding(crate::specs::Levers::cut_speed))]
 fn pushed_speed(old: i32, push: i32) -> i32
     requires small { (nat_abs old ≤ 200) × (nat_abs push ≤ 12) }

@@ -25,6 +25,9 @@ pub fn ranges_hold(yard: Yard) -> bool
         && is_from_one(yard.b, basis::Limit::CARRIERS)
 }
 
+// `room`, below, asks of any words that are long enough: no type says it, since `word_of` and
+// `Size::at` promise the same of worlds that are not tested yet.
+
 // No cell byte is above 1.
 pub fn cells_hold(cells: &[u8]) -> bool
     ensures cells { CellsHoldSays cells.now result }

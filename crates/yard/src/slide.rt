@@ -28,7 +28,8 @@ fn toward(speed: i32, from: i32, units: usize) -> i32
 }
 
 impl Ground<'_> {
-    // Whether the place so many units on along the axis is free.
+    // Whether the place so many units on along the axis is free. Two arms: a closure for each axis
+    // would want a contract of its own.
     #[tactic(auto, unfolding(crate::specs::Slide::clear_on))]
     fn clear_on(&self, axis: Axis, speed: i32, x: i32, y: i32, units: usize) -> bool
         requires near { (nat_abs x ≤ 16384) × (nat_abs y ≤ 16384) × (units ≤ 200) }
