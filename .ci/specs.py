@@ -1,18 +1,20 @@
 """Reads the tree as a reader of the statements does: the definitions of specs/, the structs and enums of src/, the
 heads of the public entries, and what each of them names.
 
-A public entry is a function that its crate's lib.rt gives out and that has no `requires`. A static library's crate says
-nothing of its own: .ci/contracts holds its exports to the entries that they call. A crate with a main.rt is a
-program's, as is one on which programs' crates stand and no others: its entry is the function `program`, if it has one.
+A public entry is a function that its crate's lib.rt gives out, that has no `requires`, and that takes no struct with a
+ghost field, whose fact its maker shows as a `requires` asks it. A static library's crate says nothing of its own:
+.ci/contracts holds its exports to the entries that they call. A crate with a main.rt is a program's, as is one on
+which programs' crates stand and no others: its entry is the function `program`, if it has one.
 """
 import os
 import re
 import textwrap
 
-WORD = re.compile(r"[^\s(){},;:.∷→≡×λ]+")
+WORD = re.compile(r"[^\s(){}\[\]<>,;:.∷→≡×λ]+")
 START = re.compile(r"(?:abbrev pub|unfoldable pub|pub record|pub data|pub(?! mod))\s+([^\s:({]+)")
 PROGRAM = re.compile(r"^fn program\(.*?\n\{\n", re.S | re.M)
 HEAD = re.compile(r"^( *)pub fn (\w+)(.*?)\n\1\{\n", re.S | re.M)
+IMPL = r"^impl(?:<[^>]*>)? (?:[\w:<>]+ for )?(\w+)"
 USE = re.compile(r"^(pub )?use ((?:\w+::)+)(?:(\w+)|\{([^}]*)\});", re.M)
 SPECS = r"^(?:ghost )?use Rattle\.(\w+)\.specs\."
 DEFINITION, TYPE, ENTRY = "definition", "type", "entry"
@@ -89,14 +91,29 @@ def uses(text, form):
             yield from (place + name for name in [name] + re.findall(r"\w+", names) if name)
 
 
+def asking():
+    """The structs with a ghost field."""
+    for folder in sorted(os.listdir("crates")):
+        for path in files(f"crates/{folder}/src", ".rt", "lib.rt", r"^(?:pub )?mod (\w+);"):
+            for name, parts in re.findall(r"^(?:pub )?struct (\w+)[^\n]*\{\n(.*?)^\}", read(path), re.S | re.M):
+                if re.search(r"^ +(?:pub )?ghost ", parts, re.M):
+                    yield name
+
+
+def asks(owner, head):
+    """Whether a function's head has a `requires`, or it takes a struct with a ghost field."""
+    taken = [owner] * ("self" in head) + re.findall(r": &?(?:mut )?(\w+)", head)
+    return bool(re.search(r"^\s*requires ", head, re.M)) or bool(set(taken) & set(asking()))
+
+
 def entries(crate, path, lib):
     text = read(path)
     given = set(re.findall(r"^pub (?:struct|enum) (\w+)", lib, re.M))
     given |= {name.split("::")[-1] for name in uses(lib, "pub ")}
     for head in HEAD.finditer(text):
-        owner = re.findall(r"^impl (\w+)", text[:head.start()], re.M)[-1] if head[1] else ""
+        owner = re.findall(IMPL, text[:head.start()], re.M)[-1] if head[1] else ""
         out = owner in given if owner else head[2] in given or path.endswith("/lib.rt")
-        if not out or re.search(r"^\s*requires ", head[0], re.M):
+        if not out or asks(owner, head[0]):
             continue
         first = text.count("\n", 0, head.start())
         name = f"{owner}::{head[2]}" if owner else head[2]

@@ -4,8 +4,10 @@ use mathlib.Core.Path.{◌≡◌, refl, sym, ap, ◌∙◌}
 use mathlib.Core.Logic.Iff
 use mathlib.Core.Logic.{◌↔◌, ◌⊎◌, inl, inr, ⊎_elim, ⊎_map}
 use mathlib.Core.Bool.{Bool, true, false, cond}
+use mathlib.Core.List.Memᴰ
 use mathlib.Core.List.{List, [], ◌∷◌, Memᴰ}
 use lib.ListN.{length, take}
+use Rattle.std.specs.Prelude.{Ok}
 use Rattle.basis.specs.Filled.{filled}
 use Rattle.basis.specs.LittleEndian.{Bytes}
 use Rattle.basis.specs.Numbers.{most_carriers}
@@ -22,7 +24,6 @@ use Rattle.merge.specs.Calls.{merge_leaves}
 use Rattle.merge.specs.Facts.{Mergeable}
 use Rattle.merge.specs.Merge.{merge, both_of, agree}
 use Rattle.merge.specs.Says.{MergeLogsSays}
-use Rattle.merge.specs.declared.Merged.TheVariants as merged
 use Rattle.merge.proofs.Alike.{its_fine, its_records, its_log}
 use Rattle.merge.proofs.Fine.{Fine, fine_merge, logged, log_is_sound}
 use Rattle.merge.proofs.Holds.{Differs, exactly, agree_not}
@@ -51,9 +52,9 @@ module _ {x r : Record} {P : Type 0} {l : List Record} where
   added : (t : Bool) → ((P ⊎ ((t ≡ true) × (x ≡ r))) ⊎ Memᴰ x l)
       ↔ (P ⊎ Memᴰ x (cond t (r ∷ l) l))
   added true = (
-    ⊎_elim (⊎_elim inl (λ h. inr (mathlib.Core.List.Memᴰ.head h.1))) (λ m. inr (mathlib.Core.List.Memᴰ.tail m)),
+    ⊎_elim (⊎_elim inl (λ h. inr (Memᴰ.head h.1))) (λ m. inr (Memᴰ.tail m)),
     ⊎_elim (λ p. inl (inl p))
-        (λ m. ⊎_elim (λ e. inl (inr (refl, e))) inr (mathlib.Core.List.Memᴰ.cases_cons m)),
+        (λ m. ⊎_elim (λ e. inl (inr (refl, e))) inr (Memᴰ.cases_cons m)),
   )
   added false = (⊎_elim (⊎_elim inl (λ h. never h.0 refl)) inr, ⊎_elim (λ p. inl (inl p)) inr)
 
@@ -78,7 +79,7 @@ module _ (world : World) (opens : Opens world) where
       → Memᴰ x (modelRun s calls).log
       ↔ (Memᴰ x s.log ⊎ Memᴰ x (delivered_by world (handed world s) calls))
   unfolding modelRun delivered_by
-  held_after s k [] x = (inl, ⊎_elim (λ m. m) (λ m. absurd (mathlib.Core.List.Memᴰ.not-nil m)))
+  held_after s k [] x = (inl, ⊎_elim (λ m. m) (λ m. absurd (Memᴰ.not-nil m)))
   held_after s k (reading t ∷ calls) x =
       let then = modelNext s (reading t) in
       let later = held_after then (kept_next (lawful world opens) (reading t) k) calls x in
@@ -98,7 +99,7 @@ module _ (world : World) (opens : Opens world) where
 
   pub ends : (s : Session (model world)) → Kept s → (one two before : List ℕ) (count : ℕ)
       (after : List ℕ) → Bytes one → Bytes two
-      → MergeLogsSays world.yard.b one two before (filled (merged.Count count) after)
+      → MergeLogsSays world.yard.b one two before (filled (Ok count) after)
       → ((r : Record) → Memᴰ r (held_by (handed world s)) ↔ Memᴰ r (records count after))
       → EndsAsReplay world (handed world s) (take (8 * count) after)
   ends s k one two before count after b c says same state long =
@@ -146,7 +147,7 @@ module _ (world : World) (opens : Opens world) where
     pub merged_as : (before : List ℕ) → length before ≡ buffer_size
         → merge_leaves before (said world.yard.b (length before) (log_of s.log)
         (log_of t.log))
-        ≡ filled (merged.Count (length u.log)) (buffer_of u.log)
+        ≡ filled (accepted (length u.log)) (buffer_of u.log)
     merged_as before long =
         let one : records_of (log_of s.log) ≡ s.log = logged (fine s k) in
         let two : records_of (log_of t.log) ≡ t.log = logged (fine t l) in

@@ -6,13 +6,15 @@ use mathlib.Core.Logic.{◌↔◌, inr, ⊎_elim}
 use mathlib.Core.List.Memᴰ
 use mathlib.Core.List.{List, Memᴰ}
 use lib.ListN.{length, take}
+use Rattle.std.specs.Prelude.{Result, Ok}
 use Rattle.basis.specs.Filled.{Filled, filled}
+use Rattle.basis.specs.Order.{accepted}
+use Rattle.basis.specs.declared.Refusal.{Refusal}
 use Rattle.record.specs.Log.{records, log_of}
 use Rattle.record.specs.declared.bytes.Record.{Record}
 use Rattle.record.proofs.Buffers.{buffer_front}
 use Rattle.merge.specs.Calls.{merge_leaves}
-use Rattle.merge.specs.declared.Merged.{Merged}
-use Rattle.merge.specs.declared.Merged.TheVariants as merged
+use Rattle.merge.proofs.Alike.{one_told}
 use Rattle.merge.proofs.Orders.{said}
 use Rattle.fleet.specs.State.{World}
 use Rattle.course.specs.Calls.{Call, session_after}
@@ -64,14 +66,15 @@ appeal world =
           (ends world m.opens (model_of reached) m.kept one two before count after b c says);
       stations = λ first second third calls others both j k h one two all same before out long says.
           let m = modelled all in
-          let left : out ≡ filled (merged.Count (session_in h).held) h.log =
-          says
+          let left : out ≡ filled (Ok (session_in h).held) h.log =
+          one_told out _
+          (says
           ∙ rw (part_is one, part_is two)
           (subst
           (λ x.
           merge_leaves before (said world.yard.b (length before) (log_of (model_of one).log)
           (log_of (model_of two).log))
-          ≡ filled (merged.Count (session_in x).held) x.log)
+          ≡ filled (accepted (session_in x).held) x.log)
           m.words
           (merged_as world m.opens (model_of one) (model_of two) (model_of all)
           (modelled one).kept (modelled two).kept m.kept
@@ -79,10 +82,10 @@ appeal world =
           Iff.trans (delivered all r)
           (Iff.trans (same r)
           (both_iff (Iff.symm (delivered one r)) (Iff.symm (delivered two r)))))
-          before long)) in (
+          before long))) in (
             left,
             subst (λ x. EndsAsReplay world h (take (8 * (session_in h).held) x))
-                (ap (λ (x : Filled Merged ℕ). x.out) (sym left))
+                (ap (λ (x : Filled (Result ℕ Refusal) ℕ). x.out) (sym left))
                 (subst (λ x. EndsAsReplay world x (held_part x)) m.words
                 (demand2 world m.opens (model_of all) m.kept).replay),
           );

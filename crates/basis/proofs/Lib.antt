@@ -3,6 +3,7 @@ pub mod Tests
 pub mod Order
 pub mod Ladder
 pub mod LittleEndian
+pub mod Refusals
 pub mod Lists
 pub mod Signed
 pub mod Ring

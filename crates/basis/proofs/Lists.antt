@@ -1,22 +1,17 @@
 -- Laws of lists that the kit's library lacks, over any element type.
 use Prim.Native.Nat.{ℕ, zero, suc, ◌+◌, ◌-◌, ◌<◌, ◌≤◌}
-use mathlib.Core.Path.{◌≡◌, refl, sym, ap, ◌∙◌}
+use mathlib.Core.Path.{◌≡◌, sym, ap, ◌∙◌}
 use mathlib.Core.List.{List, [], ◌∷◌, ◌++◌, append-nil}
-use native.Mathlib.Nat.{le_of_eq, le_of_suc-le-suc, not-suc-le-zero, zero-add, suc-add, sub-zero}
+use native.Mathlib.Nat.{zero-add, suc-add, sub-zero}
 use native.Mathlib.Nat.{zero-sub, suc-sub-suc}
 use lib.ListN.{length, take, drop, replicate, get_or, set, length-append, length-drop}
 use lib.ListN.{drop_of_length-le, get_or-append}
-use native.Mathlib.Numerals.{add-one}
-use lib.Seq.{drop-length, length-take-le, take-nil, take_all, get_or-take, get_or-drop, paste}
+use lib.Seq.{length-take-le, take-nil, take_all, get_or-take, get_or-drop, paste}
 use lib.Seq.{paste-zero, paste-suc, drop-paste, append_snoc, get_or-append_seam, get_or-append-add}
 use lib.Seq.{length_paste_head}
 use native.Mathlib.Omega.{arith}
 
 module _ {A : Type 0} where
-  -- The part of a slice from a place to its end.
-  pub to_end : (n : ℕ) (l : List A) → take (length l - n) (drop n l) ≡ drop n l
-  to_end n l = take_all (length l - n) (drop n l) (le_of_eq (length-drop n l))
-
   pub drop_replicate : (m n : ℕ) (a : A) → drop m (replicate n a) ≡ replicate (n - m) a
   drop_replicate zero n a = rw sub-zero
   drop_replicate (suc m) zero a = rw zero-sub
@@ -36,15 +31,6 @@ module _ {A : Type 0} where
   pub part_at : (n at k : ℕ) (l : List A) (z : A) → k < n
       → get_or (take n (drop at l)) k z ≡ get_or l (at + k) z
   part_at n at k l z h = get_or-take n (drop at l) k z h ∙ get_or-drop at l k z
-
-  -- What a copy has not reached yet.
-  pub paste_rest : (d : List A) (at : ℕ) (s : List A) (k : ℕ) (z : A) → at ≤ length d → k ≤ length s
-      → get_or (paste d at s k) (at + k) z ≡ get_or d (at + k) z
-  paste_rest d at s k z h q =
-      let zero-on : at + k + 0 ≡ at + k = omega arith in
-      let left = get_or-drop (at + k) (paste d at s k) 0 z in
-      let right = get_or-drop (at + k) d 0 z in
-      rw zero-on at (sym left ∙ ap (λ (x : List A). get_or x 0 z) (drop-paste d at s k h q) ∙ right)
 
   -- What a copy has reached, and what stands before it and after it.
   module _ (d : List A) (at : ℕ) (s : List A) (n : ℕ) (z : A) (room : at + n ≤ length d)
@@ -114,19 +100,3 @@ module _ {A : Type 0} where
       → stored d at 0 s ≡ paste d at s (length s)
   stored_all d at s h =
       ap (λ (x : List A). stored x at 0 s) (paste-zero d at s) ∙ stored_on d at [] s h
-
-  -- A list filled from the front with one element goes one further.
-  fill_suc : (n : ℕ) (a : A) (d : List A) → n < length d
-      → set (replicate n a ++ drop n d) n a ≡ replicate (suc n) a ++ drop (suc n) d
-  fill_suc n a [] h = absurd (not-suc-le-zero h)
-  fill_suc zero a (x ∷ d) h = refl
-  fill_suc (suc n) a (x ∷ d) h = ap (λ (l : List A). a ∷ l) (fill_suc n a d (le_of_suc-le-suc h))
-
-  pub fill_on : (n : ℕ) (a : A) (d : List A) → n < length d
-      → set (replicate n a ++ drop n d) n a ≡ replicate (n + 1) a ++ drop (n + 1) d
-  fill_on n a d h = rw add-one (fill_suc n a d h)
-
-  -- And is full at its end.
-  pub filled : (a : A) (d : List A)
-      → replicate (length d) a ++ drop (length d) d ≡ replicate (length d) a
-  filled a d = rw drop-length (append-nil (replicate (length d) a))

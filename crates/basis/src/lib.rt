@@ -1,48 +1,61 @@
-// What every crate shares: the numbers of document 01's table and those that document 02 adds, the
-// limits that more than one crate keeps, and the lever held at a place. A limit of one crate alone
+// What every crate shares: why a call is refused, with the numbers of document 01's table and those
+// that document 02 adds, and the limits that more than one crate keeps. A limit of one crate alone
 // is an associated constant of that crate's own type.
 
 #![tactic(auto)]
 
-// 'Numbers given back', by name.
-#[derive(Drop)]
-pub struct Number {}
+ghost use Rattle.std.specs.Prelude.{◌≡◌};
+ghost use Rattle.basis.specs.Refusal.{number_of};
 
-impl Number {
-    pub const TAKEN: u8 = 0;
+use std::fmt;
 
-    pub const HELD: u8 = 1;
-
-    pub const MALFORMED: u8 = 2;
-
-    pub const CARRIER: u8 = 3;
-
-    pub const LEVER: u8 = 4;
-
-    pub const STEP: u8 = 5;
-
-    pub const CONFLICT: u8 = 6;
-
-    pub const LATE: u8 = 7;
-
-    pub const FULL: u8 = 8;
-
-    pub const WORLD: u8 = 9;
-
-    pub const ROOM: u8 = 10;
-
-    pub const BACKWARD: u8 = 11;
-
-    pub const END: u8 = 12;
-
-    pub const LOG: u8 = 13;
-
-    pub const FAULT: u8 = 14;
-
+// 'Numbers given back': why a call is refused, by its number.
+#[derive(Clone, Copy, Debug, PartialEq, Eq)]
+pub enum Refusal {
+    Malformed = 2,
+    Carrier = 3,
+    Lever = 4,
+    Step = 5,
+    Conflict = 6,
+    Late = 7,
+    Full = 8,
+    World = 9,
+    Room = 10,
+    Backward = 11,
+    End = 12,
+    Log = 13,
+    Fault = 14,
     // Document 02, §7.
-    pub const LOAD: u8 = 17;
+    Load = 17,
     // Document 02, §8.
-    pub const ROPE: u8 = 18;
+    Rope = 18,
+}
+
+impl From<Refusal> for u8 {
+    ghost from_gives = { λ why number. number ≡ number_of why };
+
+    fn from(why: Refusal) -> u8 {
+        why as u8
+    }
+}
+
+impl From<Refusal> for u32 {
+    ghost from_gives = { λ why number. number ≡ number_of why };
+
+    fn from(why: Refusal) -> u32 {
+        why as u32
+    }
+}
+
+impl fmt::Display for Refusal {
+    ghost use Rattle.std.specs.Prelude.{Some};
+    ghost use Rattle.std.specs.Fmt.{decimal};
+
+    ghost output = { λ why. Some (decimal (number_of why)) };
+
+    fn fmt<W: fmt::Write>(&self, f: &mut fmt::Formatter<W>) -> fmt::Result {
+        write!(f, "{}", u8::from(*self))
+    }
 }
 
 #[derive(Drop)]
@@ -57,11 +70,4 @@ impl Limit {
     pub const LEVER: u8 = 9;
     // 'at most 2,048'; rules 8 and 13.
     pub const RECORDS: usize = 2_048;
-}
-
-// The lever held at a place, if any.
-#[derive(Clone, Copy)]
-pub enum HeldLever {
-    Nothing,
-    Lever(u8),
 }

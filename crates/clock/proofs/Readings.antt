@@ -10,8 +10,9 @@ use Rattle.basis.specs.Numbers.{BACKWARD, END, FAULT, most_steps}
 use Rattle.basis.specs.Order.{Answer, refused, accepted, check, give, answer}
 use Rattle.basis.proofs.Order.{passes, fails, gives}
 use Rattle.clock.specs.Clock.{due, sound_clock}
-use Rattle.clock.specs.Reading.{Given, given_by, clock_order}
+use Rattle.clock.specs.Reading.{given_by, clock_order}
 use Rattle.clock.specs.declared.Clock.{Clock}
+use Rattle.clock.specs.declared.Given.{Given}
 use Rattle.clock.proofs.Sound.{sound_says}
 use Rattle.clock.proofs.Ticks.{equal_due, equal_ticked}
 
@@ -104,6 +105,9 @@ module _ (length : ℕ) (clock : Clock) (reading : ℕ) where
       go : {given : Given} → Outcome (accepted given)
           → Within × (given_by length clock reading ≡ given)
       go (taken w) = (w, refl)
+
+-- The answer to a reading, by what the tests said.
+pub ruleset outcomes = (is_fault, is_backward, is_end, is_taken)
 
 -- An equal reading is accepted, leaves the clock as it was and makes no step.
 pub equal_reading : (length : ℕ) (clock : Clock) → sound_clock length clock ≡ true

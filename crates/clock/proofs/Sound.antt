@@ -1,11 +1,11 @@
 -- Laws of a sound clock (document 01, '*Sound* means'): from the test to the facts, and back.
 use Prim.Native.Nat.{ℕ, ◌+◌, ◌-◌, ◌*◌, ◌≤◌, ◌<◌}
 use mathlib.Core.Path.{◌≡◌, refl, sym}
-use mathlib.Core.Logic.{◌↔◌}
+use mathlib.Core.Logic.{◌↔◌, ◌⊎◌}
 use mathlib.Core.Bool.{Bool, true, false}
 use native.Mathlib.Omega.{arith}
 use Rattle.basis.proofs.Tests.{says_le, says_lt, says_eq, says_three}
-use Rattle.basis.specs.Numbers.{most_steps}
+use Rattle.basis.specs.Numbers.{most_steps, step_length}
 use Rattle.clock.specs.Clock.{sound_clock}
 use Rattle.clock.specs.declared.Clock.{Clock}
 
@@ -47,3 +47,9 @@ pub exactly_sound : (length : ℕ) (clock : Clock) → (sound_clock length clock
     × (clock.last - clock.first ≡ length * clock.steps + clock.remainder + clock.cut))
 exactly_sound length clock =
     (λ e. let s = sound_says e in omega arith, λ w. is_sound (omega arith))
+
+-- A limit that fails: of the remainder, of the steps, or of the last reading.
+pub beyond : (clock : Clock)
+    → (step_length ≤ clock.remainder) ⊎ (most_steps < clock.steps) ⊎ (clock.last < clock.first)
+    → false ≡ sound_clock step_length clock
+beyond clock past = sym (not_sound (λ s. omega (arith, past)))

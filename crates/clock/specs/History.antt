@@ -3,8 +3,9 @@
 use Rattle.std.specs.Prelude.{ℕ, ◌+◌, ◌-◌, ◌≤◌, ◌≡◌, List, [], ◌∷◌}
 use Rattle.basis.specs.Order.{Answer, refused, accepted, answer}
 use Rattle.clock.specs.Clock.{longest_gap, fresh}
-use Rattle.clock.specs.Reading.{Given, clock_order, clock_left}
+use Rattle.clock.specs.Reading.{clock_order, clock_left}
 use Rattle.clock.specs.declared.Clock.{Clock}
+use Rattle.clock.specs.declared.Given.{Given}
 
 -- The clock after a list of readings.
 unfoldable pub after_readings : ℕ → Clock → List ℕ → Clock

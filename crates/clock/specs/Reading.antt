@@ -4,13 +4,7 @@ use Rattle.basis.specs.Numbers.{BACKWARD, END, FAULT, most_steps}
 use Rattle.basis.specs.Order.{Answer, refused, accepted, Order, check, give}
 use Rattle.clock.specs.Clock.{due, ticked, sound_clock}
 use Rattle.clock.specs.declared.Clock.{Clock}
-use Rattle.clock.specs.declared.Reading.{Reading}
-use Rattle.clock.specs.declared.Reading.TheVariants.{Accepted, Refused}
-
--- What an accepted reading gives: the new clock and the number of steps due.
-pub record Given : Type 0 where
-  pub clock : Clock
-  pub due : ℕ
+use Rattle.clock.specs.declared.Given.{Given}
 
 -- 'whole steps are made, and the rest of the pool is the new remainder'
 abbrev pub given_by : ℕ → Clock → ℕ → Given
@@ -24,11 +18,6 @@ clock_order length clock reading =
     (check (leb clock.last reading) BACKWARD
     (check (leb (clock.steps + due length clock reading) most_steps) END
     (give (given_by length clock reading))))
-
--- The number, or the values, of each case of the code's answer.
-abbrev pub clock_answer : Reading → Answer Given
-clock_answer (Accepted clock due) = accepted (record { clock = clock; due = due })
-clock_answer (Refused number) = refused number
 
 -- The clock after an answer: an accepted reading's new clock; a refusal leaves it as before.
 abbrev pub clock_left : Clock → Answer Given → Clock

@@ -5,11 +5,12 @@
 ghost use Rattle.std.specs.Prelude.{◌≡◌, true};
 ghost use Rattle.basis.specs.Numbers.{step_length};
 ghost use Rattle.basis.specs.Order.{answer};
+ghost use Rattle.basis.specs.Refusal.{answer_of};
 ghost use Rattle.clock.specs.Clock.{sound_clock, used};
-ghost use Rattle.clock.specs.Reading.{clock_answer, clock_order};
+ghost use Rattle.clock.specs.Reading.{clock_order};
 ghost use Rattle.clock.specs.Says.{NewSays, IsSoundSays, ReadSays};
 
-use basis::{Limit, Number};
+use basis::{Limit, Refusal};
 
 // The words of a clock; microseconds, but for `steps`, the number of steps made.
 #[derive(Clone, Copy)]
@@ -21,11 +22,11 @@ pub struct Clock {
     pub steps: u64,
 }
 
-// What a reading comes to: the new clock and the number of steps due, or a refusal by its number.
+// What an accepted reading gives: the new clock and the number of steps due.
 #[derive(Clone, Copy)]
-pub enum Reading {
-    Accepted { clock: Clock, due: u64 },
-    Refused(u8),
+pub struct Given {
+    pub clock: Clock,
+    pub due: u64,
 }
 
 impl Clock {
@@ -53,24 +54,15 @@ impl Clock {
     fn used(gap: u64) -> u64
         ensures used { result ≡ used gap }
     {
-        if gap < Clock::LONGEST {
-            gap
-        } else {
-            Clock::LONGEST
-        }
+        gap.min(Clock::LONGEST)
     }
 
     // Whether the limits and the time equation hold of these words.
+    #[tactic(auto, using(crate::proofs::Sound::beyond))]
     pub fn is_sound(self) -> bool
         ensures sound { IsSoundSays self result }
     {
-        if self.remainder >= Clock::LENGTH {
-            return false;
-        }
-        if self.steps > Clock::STEPS {
-            return false;
-        }
-        if self.last < self.first {
+        if self.remainder >= Clock::LENGTH || self.steps > Clock::STEPS || self.last < self.first {
             return false;
         }
         // The time equation by differences: its sum could wrap.
@@ -80,13 +72,13 @@ impl Clock {
     }
 
     // 11, 12, or the clock after this reading with the number of steps due; of a sound clock.
-    #[tactic(auto, using(crate::proofs::Readings::is_end), unfolding(crate::specs::Clock::due))]
-    pub fn tick(self, reading: u64) -> Reading
+    #[tactic(auto, using(crate::proofs::Readings::outcomes), unfolding(crate::specs::Clock::due))]
+    pub fn tick(self, reading: u64) -> Result<Given, Refusal>
         requires sound { sound_clock step_length self ≡ true }
-        ensures ticked { clock_answer result ≡ answer (clock_order step_length self reading) }
+        ensures ticked { answer_of result ≡ answer (clock_order step_length self reading) }
     {
         if reading < self.last {
-            return Reading::Refused(Number::BACKWARD);
+            return Err(Refusal::Backward);
         }
         let gap = reading - self.last;
         let used = Clock::used(gap);
@@ -94,7 +86,7 @@ impl Clock {
         let due = pool / Clock::LENGTH;
         let steps = self.steps + due;
         if steps > Clock::STEPS {
-            return Reading::Refused(Number::END);
+            return Err(Refusal::End);
         }
         let clock = Clock {
             first: self.first,
@@ -103,16 +95,16 @@ impl Clock {
             cut: self.cut + (gap - used),
             steps,
         };
-        Reading::Accepted { clock, due }
+        Ok(Given { clock, due })
     }
 
     // 14, 11, 12, or the clock after this reading with the number of steps due.
-    #[tactic(auto, using(crate::proofs::Readings::is_fault))]
-    pub fn read(self, reading: u64) -> Reading
+    #[tactic(auto, using(crate::proofs::Readings::outcomes))]
+    pub fn read(self, reading: u64) -> Result<Given, Refusal>
         ensures read { ReadSays self reading result }
     {
         if !self.is_sound() {
-            return Reading::Refused(Number::FAULT);
+            return Err(Refusal::Fault);
         }
         self.tick(reading)
     }

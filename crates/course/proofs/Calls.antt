@@ -3,7 +3,7 @@ use Prim.Native.Nat.{ℕ}
 use mathlib.Core.Path.{◌≡◌, refl, sym, ap, ◌∙◌}
 use mathlib.Core.Bool.{true}
 use mathlib.Core.List.{List}
-use mathlib.Core.Option.{Option, some}
+use Rattle.std.specs.Prelude.{Option, Some}
 use Rattle.basis.specs.Order.{Answer, refused, accepted, answer}
 use Rattle.basis.proofs.Order.{gives, apart, stops, goes_on}
 use Rattle.record.specs.Bytes.{record_of, read_order}
@@ -12,7 +12,8 @@ use Rattle.record.specs.declared.bytes.Record.{Record}
 use Rattle.record.proofs.OneRecord.{Within, reads}
 use Rattle.record.proofs.Placing.{ByRow, Placed, same, other, late, full, broken, takes}
 use Rattle.record.proofs.Placing.{told, is_held, is_taken}
-use Rattle.clock.specs.Reading.{Given, clock_order}
+use Rattle.clock.specs.Reading.{clock_order}
+use Rattle.clock.specs.declared.Given.{Given}
 use Rattle.course.specs.World.{World}
 use Rattle.course.specs.Session.{Session}
 use Rattle.course.specs.Calls.{Call, reading, delivery, Outcome, read, taken, held}
@@ -39,7 +40,7 @@ module _ {world : World} (s : Session world) where
     pub told_at : {a : Answer (Outcome world)} → answer_at r ≡ a → PlacedAs a
     told_at e = told r (found_in s r) _ _ e
 
-    pub is_held_at : held_at r ≡ some r.lever → answer_at r ≡ accepted held
+    pub is_held_at : held_at r ≡ Some r.lever → answer_at r ≡ accepted held
     is_held_at h = is_held r (found_in s r) _ _ h
 
     pub is_taken_at : Takes → answer_at r ≡ accepted (taken (take_in s r))

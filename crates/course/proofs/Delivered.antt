@@ -4,7 +4,7 @@ use mathlib.Core.Path.{◌≡◌, refl, sym, ap, subst, ◌∙◌}
 use mathlib.Core.Logic.{◌↔◌, ◌⊎◌, inl, inr, ⊎_elim}
 use mathlib.Core.Bool.{true, false}
 use mathlib.Core.List.{List, Memᴰ}
-use mathlib.Core.Option.{some}
+use Rattle.std.specs.Prelude.{Some}
 use Rattle.basis.specs.Order.{Answer, refused, accepted, is_accepted}
 use Rattle.basis.proofs.Tests.{never}
 use Rattle.record.specs.Bytes.{record_of}
@@ -13,7 +13,7 @@ use Rattle.record.proofs.OneRecord.{reads}
 use Rattle.record.proofs.Insertion.{member_put_in}
 use Rattle.record.proofs.Members.{lever_held}
 use Rattle.record.proofs.Placing.{same, other, late, full, broken, takes}
-use Rattle.clock.specs.Reading.{Given}
+use Rattle.clock.specs.declared.Given.{Given}
 use Rattle.course.specs.World.{World}
 use Rattle.course.specs.Session.{Session, with_log}
 use Rattle.course.specs.Calls.{reading, delivery, Outcome, answer_to, left, next}
@@ -41,7 +41,7 @@ module _ {world : World} (s : Session world) where
     adds_none = (inl, ⊎_elim (λ m. m) (λ h. never h.0 refl))
 
     module _ (r : Record) (here : r ≡ record_of bytes) where
-      already : held_at s r ≡ some r.lever → x ≡ record_of bytes → Memᴰ x s.log
+      already : held_at s r ≡ Some r.lever → x ≡ record_of bytes → Memᴰ x s.log
       already h e = subst (λ y. Memᴰ y s.log) (here ∙ sym e) (lever_held s.log h)
 
       adds : {a : Answer (Outcome world)} → PlacedAs s r a → Adds a

@@ -2,10 +2,12 @@
 use Prim.Native.Nat.{ℕ}
 use mathlib.Core.Path.{◌≡◌, refl, sym, subst, ◌∙◌}
 use mathlib.Core.List.{List, [], ◌∷◌}
-use mathlib.Core.Option.{some, none-ne-some}
+use Rattle.std.specs.Prelude.{Some}
+use Rattle.std.proofs.lemmas.Option.{none-some}
 use Rattle.basis.specs.Order.{Answer, refused, accepted}
 use Rattle.record.specs.declared.bytes.Record.{Record}
-use Rattle.clock.specs.Reading.{Given, clock_left}
+use Rattle.clock.specs.Reading.{clock_left}
+use Rattle.clock.specs.declared.Given.{Given}
 use Rattle.clock.specs.History.{after_readings}
 use Rattle.course.specs.World.{World}
 use Rattle.course.specs.Session.{Session, with_log}
@@ -35,7 +37,7 @@ module _ {world : World} where
 
   module _ (r : Record) where
     Stays : Session world → Type 0
-    Stays s = held_at s r ≡ some r.lever
+    Stays s = held_at s r ≡ Some r.lever
 
     stays_next : (s : Session world) (call : Call) → Stays s → Stays (next s call)
     unfolding Stays with_log
@@ -49,7 +51,7 @@ module _ {world : World} where
         (λ new w k. put_other r.step r.carrier new s.log (elsewhere new k) ∙ h)
       where
         elsewhere : (new : Record) → Takes s new → At r.step r.carrier new → ⊥
-        elsewhere new k at = none-ne-some _ (sym k.free ∙ at_same s.log at ∙ h)
+        elsewhere new k at = none-some _ (sym k.free ∙ at_same s.log at ∙ h)
 
     stays : (s : Session world) (calls : List Call) → Stays s → Stays (run s calls)
     unfolding run

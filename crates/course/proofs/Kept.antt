@@ -24,7 +24,7 @@ use Rattle.record.proofs.Logs.{done as None-more}
 use Rattle.record.proofs.Insertion.{length_put_in, within_put_in, climbs_put_in}
 use Rattle.record.specs.Place.{row_serves}
 use Rattle.record.proofs.Placing.{broken}
-use Rattle.clock.specs.Reading.{Given}
+use Rattle.clock.specs.declared.Given.{Given}
 use Rattle.clock.proofs.Sound.{Sound, sound_says, is_sound}
 use Rattle.clock.proofs.Ticks.{fresh_sound}
 use Rattle.clock.proofs.Readings.{exactly_fault}

@@ -3,7 +3,7 @@ use Prim.Native.Nat.{ℕ, ◌<◌}
 use mathlib.Core.Path.{◌≡◌, refl, ◌∙◌}
 use mathlib.Core.Bool.{Bool, true, false, cond, ◌&&◌}
 use mathlib.Core.List.{List, [], ◌∷◌}
-use mathlib.Core.Option.{some}
+use Rattle.std.specs.Prelude.{Some}
 use native.Mathlib.Omega.{arith}
 use lib.Dec.{ltb, eqb}
 use borrow.Author.Tests.{le-ltb, ltb-false, eq-eqb, ne_eqb, eqb-true}
@@ -48,16 +48,16 @@ module _ (t carrier : ℕ) where
 
   put_lever : (r : Record) (l : List Record)
       → lever_at t carrier (put_in r l)
-      ≡ cond (stands_at t carrier r) (some r.lever) (lever_at t carrier l)
+      ≡ cond (stands_at t carrier r) (Some r.lever) (lever_at t carrier l)
   unfolding lever_at put_in stands_at
   put_lever r [] = refl
   put_lever r (s ∷ rest) = go (precedes s r) refl _ refl _ refl (put_lever r rest)
     where
       go : (b : Bool) → precedes s r ≡ b → (x : Bool) → stands_at t carrier s ≡ x
           → (y : Bool) → stands_at t carrier r ≡ y
-          → lever_at t carrier (put_in r rest) ≡ cond y (some r.lever) (lever_at t carrier rest)
+          → lever_at t carrier (put_in r rest) ≡ cond y (Some r.lever) (lever_at t carrier rest)
           → lever_at t carrier (cond b (s ∷ put_in r rest) (r ∷ s ∷ rest))
-          ≡ cond y (some r.lever) (cond x (some s.lever) (lever_at t carrier rest))
+          ≡ cond y (Some r.lever) (cond x (Some s.lever) (lever_at t carrier rest))
       go true b true x true y ih = never b (not_before r s (stands r y) (stands s x))
       go true b true x false y ih = rw x
       go true b false x y' y ih = rw (x, ih)
@@ -69,7 +69,7 @@ module _ (t carrier : ℕ) where
   put_other r l apart = put_lever r l ∙ go (stands_at t carrier r) refl
     where
       go : (b : Bool) → stands_at t carrier r ≡ b
-          → cond b (some r.lever) (lever_at t carrier l) ≡ lever_at t carrier l
+          → cond b (Some r.lever) (lever_at t carrier l) ≡ lever_at t carrier l
       go true e = absurd (apart (stands r e))
       go false e = refl
 
@@ -81,8 +81,8 @@ module _ (t carrier : ℕ) where
       (go (stands_at t carrier r) refl (stands_at t carrier s) refl)
     where
       go : (x : Bool) → stands_at t carrier r ≡ x → (y : Bool) → stands_at t carrier s ≡ y
-          → cond y (some s.lever) (cond x (some r.lever) (lever_at t carrier l))
-          ≡ cond x (some r.lever) (cond y (some s.lever) (lever_at t carrier l))
+          → cond y (Some s.lever) (cond x (Some r.lever) (lever_at t carrier l))
+          ≡ cond x (Some r.lever) (cond y (Some s.lever) (lever_at t carrier l))
       go true x true y =
           let p = stands r x in
           let q = stands s y in
@@ -108,7 +108,7 @@ module _ (t carrier : ℕ) where
 
 -- At its own place its lever is held.
 pub put_own : (r : Record) (l : List Record)
-    → lever_at r.step r.carrier (put_in r l) ≡ some r.lever
+    → lever_at r.step r.carrier (put_in r l) ≡ Some r.lever
 unfolding stands_at
 put_own r l =
     put_lever r.step r.carrier r l

@@ -3,7 +3,7 @@ use Prim.Native.Nat.{ℕ, ◌/◌, ◌%◌, ◌<◌}
 use mathlib.Core.Path.{◌≡◌, refl, sym, ◌∙◌}
 use mathlib.Core.Logic.{◌↔◌}
 use mathlib.Core.List.{List, Memᴰ}
-use mathlib.Core.Option.{Option, none, some}
+use Rattle.std.specs.Prelude.{Option, None, Some}
 use native.Mathlib.Omega.{arith}
 use Rattle.record.specs.Log.{place}
 use Rattle.record.specs.Buffer.{lever_at}
@@ -36,9 +36,9 @@ module _ {low high : ℕ} {l m : List Record} (c : Climbs low l) (d : Climbs hig
   same_at t same carrier = go (lever_at t carrier l) (lever_at t carrier m) refl refl
     where
       go : (x y : Option ℕ) → lever_at t carrier l ≡ x → lever_at t carrier m ≡ y → x ≡ y
-      go none none p q = refl
-      go (some lever) y p q = sym (held_lever d ((same _ refl).0 (lever_held l p))) ∙ q
-      go none (some lever) p q = sym p ∙ held_lever c ((same _ refl).1 (lever_held m q))
+      go None None p q = refl
+      go (Some lever) y p q = sym (held_lever d ((same _ refl).0 (lever_held l p))) ∙ q
+      go None (Some lever) p q = sym p ∙ held_lever c ((same _ refl).1 (lever_held m q))
 
   -- So the records held decide the log.
   pub same_log : ((r : Record) → Memᴰ r l ↔ Memᴰ r m) → l ≡ m

@@ -4,7 +4,7 @@ use mathlib.Core.Path.{◌≡◌, sym, ap, subst, ◌∙◌}
 use mathlib.Core.Logic.{◌↔◌, ◌≢◌}
 use mathlib.Core.Bool.{Bool, true, false, true≢false}
 use mathlib.Core.List.{List}
-use mathlib.Core.Option.{some}
+use Rattle.std.specs.Prelude.{Some}
 use native.Mathlib.Omega.{arith}
 use Rattle.basis.specs.Numbers.{row_count}
 use Rattle.basis.specs.Order.{accepted}
@@ -132,7 +132,7 @@ module _ {world : World} (law : Lawful world) where
     λ held. is_held_at s r (held_lever k.climbs held),
   )
     where
-      by_held : PlacedAs s r (accepted held) → held_at s r ≡ some r.lever
+      by_held : PlacedAs s r (accepted held) → held_at s r ≡ Some r.lever
       by_held (placing.same h) = h
 
   numbers_exactly : {s : Session world} → Kept s → ExactlyWhen s

@@ -3,7 +3,7 @@ use Prim.Native.Nat.{ℕ}
 use mathlib.Core.Path.{◌≡◌, refl, sym, ap, subst, ◌∙◌}
 use mathlib.Core.Logic.{◌≢◌}
 use mathlib.Core.List.{List}
-use mathlib.Core.Option.{none-ne-some}
+use Rattle.std.proofs.lemmas.Option.{none-some}
 use native.Mathlib.Omega.{arith}
 use Rattle.basis.specs.Order.{accepted}
 use Rattle.record.specs.Bytes.{record_of}
@@ -30,7 +30,7 @@ elsewhere : {world : World} (s : Session world) (a b : Record) → Takes (take_i
     → At b.step b.carrier a → ⊥
 unfolding with_log
 elsewhere s a b second at =
-    none-ne-some _ (sym second.free ∙ sym (at_same _ at) ∙ put_own a s.log)
+    none-some _ (sym second.free ∙ sym (at_same _ at) ∙ put_own a s.log)
 
 module _ {world : World} (s t u : Session world) (a b : List ℕ)
     (first : answer_to s (delivery a) ≡ accepted (taken t))

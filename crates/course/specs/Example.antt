@@ -1,8 +1,7 @@
 -- A small world, so that no premise of the statements is empty, and document 01's example on it:
 -- '100 steps made: step 36 is taken, step 35 is LATE; step 35 already held with the same lever is
 -- HELD.'
-use Rattle.std.specs.Prelude.{ℕ, ◌+◌, ◌≡◌, List, [], ◌∷◌, eqb, length, get_or}
-use Rattle.std.proofs.Math.Option.{Option, none, some}
+use Rattle.std.specs.Prelude.{ℕ, ◌+◌, ◌≡◌, Option, None, Some, List, [], ◌∷◌, eqb, length, get_or}
 use Rattle.basis.specs.Numbers.{MALFORMED, CARRIER, CONFLICT, LATE, BACKWARD, step_length}
 use Rattle.basis.specs.Order.{refused, accepted}
 use Rattle.record.specs.Bytes.{bytes_of}
@@ -14,8 +13,8 @@ use Rattle.course.specs.Words.{WordWorld, world_of_words, Sized}
 
 -- A word counts its steps; a lever given in a step is added in place of 1.
 abbrev pub counted : Option ℕ → ℕ → ℕ
-counted none word = word + 1
-counted (some lever) word = word + lever
+counted None word = word + 1
+counted (Some lever) word = word + lever
 
 -- Two carriers of one word each.
 abbrev pub counting : WordWorld ℕ

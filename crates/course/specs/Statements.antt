@@ -12,7 +12,8 @@ use Rattle.record.specs.Place.{AtPlace}
 use Rattle.record.specs.Part.{earlier}
 use Rattle.record.specs.declared.bytes.Record.{Record}
 use Rattle.clock.specs.Clock.{sound_clock}
-use Rattle.clock.specs.Reading.{Given, clock_order}
+use Rattle.clock.specs.Reading.{clock_order}
+use Rattle.clock.specs.declared.Given.{Given}
 use Rattle.clock.specs.History.{clock_after, accepted_after, last_of, NoneRefused, NoLongGap}
 use Rattle.clock.specs.Statements.{FromOpening}
 use Rattle.course.specs.World.{World, Lawful, after, rows_after}

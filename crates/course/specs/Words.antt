@@ -1,6 +1,5 @@
 -- Document 01, 'Going back', as words: worlds whose states are words of one width, and their rows.
-use Rattle.std.specs.Prelude.{ℕ, ◌≡◌, Bool, List, [], ◌∷◌, length, replicate}
-use Rattle.std.proofs.Math.Option.{Option}
+use Rattle.std.specs.Prelude.{ℕ, ◌≡◌, Bool, Option, List, [], ◌∷◌, length, replicate}
 use Rattle.basis.specs.Numbers.{row_count}
 use Rattle.course.specs.World.{World}
 use Rattle.course.specs.Session.{Made}

@@ -1,7 +1,8 @@
 -- The table of specs/Lettered.antt, computed on the definitions.
 use mathlib.Core.Path.{refl}
 use Rattle.basis.specs.Order.{answer}
-use Rattle.record.specs.Bytes.{record_of, bytes_of, well_formed, limits_order, read_order, write_order}
+use Rattle.record.specs.Bytes.{record_of, bytes_of, well_formed, limits_order, read_order}
+use Rattle.record.specs.Bytes.{write_order}
 use Rattle.clock.specs.Clock.{due, ticked, sound_clock}
 use Rattle.clock.specs.Reading.{clock_order}
 use Rattle.yard.specs.Ranges.{every}

@@ -3,14 +3,13 @@ use Prim.Native.Nat.{ℕ, ◌*◌, ◌≤◌}
 use mathlib.Core.Path.{◌≡◌, refl}
 use mathlib.Core.Bool.{Bool, true, ◌&&◌}
 use mathlib.Core.List.{List}
-use mathlib.Core.Option.{Option, none, some}
+use Rattle.std.specs.Prelude.{Option, None, Some}
 use native.Mathlib.Omega.{arith}
 use borrow.Author.Tests.{eq-eqb, eqb-true}
 use lib.Dec.{eqb}
 use lib.IntN.{ℤ, pos}
 use lib.ListN.{length}
 use Rattle.basis.specs.Numbers.{step_length, most_lever}
-use Rattle.basis.specs.HeldLever.{held_of}
 use Rattle.basis.proofs.Tests.{and_left, and_right, and_both}
 use Rattle.yard.specs.Step.{LeverFits}
 use Rattle.yard.specs.Rule9.{ranges_hold, cells_hold, sizes_hold, starts_hold}
@@ -74,10 +73,10 @@ module _ (world : World) (opens : Opens world) where
   sized = record { start = starts.room; step = length_all world }
 
   -- Levers of at most 9 are such as a carrier's step may be given.
-  lever_fits : (lever : Option ℕ) → ((n : ℕ) → lever ≡ some n → n ≤ most_lever)
-      → LeverFits (held_of lever)
-  lever_fits none h = tt
-  lever_fits (some n) h = h n refl
+  lever_fits : (lever : Option ℕ) → ((n : ℕ) → lever ≡ Some n → n ≤ most_lever)
+      → LeverFits lever
+  lever_fits None h = tt
+  lever_fits (Some n) h = h n refl
 
   pub lawful : Lawful (model world)
   lawful =

@@ -5,22 +5,20 @@ use mathlib.Core.Logic.{◌↔◌}
 use mathlib.Core.List.{List}
 use native.Mathlib.Omega.{arith}
 use lib.IntN.{ℤ}
+use Rattle.std.specs.Prelude.{Result, Ok, Err}
 use Rattle.basis.specs.Filled.{Filled, filled}
 use Rattle.basis.specs.Numbers.{TAKEN, HELD}
 use Rattle.basis.specs.Order.{Answer, refused, accepted}
+use Rattle.basis.specs.Refusal.{answer_of}
+use Rattle.basis.specs.declared.Refusal.{Refusal}
 use Rattle.basis.proofs.Order.{apart}
+use Rattle.basis.proofs.Refusals.{one_refusal, one_answer}
 use Rattle.session.specs.declared.Session.{Session}
-use Rattle.session.specs.declared.Running.{Running}
-use Rattle.session.specs.declared.Running.TheVariants as running
 use Rattle.session.specs.declared.Delivered.{Delivered}
 use Rattle.session.specs.declared.Delivered.TheVariants as delivered
-use Rattle.session.specs.declared.Digested.{Digested}
-use Rattle.session.specs.declared.Digested.TheVariants as digested
-use Rattle.session.specs.declared.Replayed.{Replayed}
-use Rattle.session.specs.declared.Replayed.TheVariants as replayed
 use Rattle.session.specs.Lent.{Lent, Made, tells, leaves}
 use Rattle.session.specs.Calls.{taken, already_held}
-use Rattle.session.specs.Answers.{running_of, delivered_of, digested_of, replay_leaves}
+use Rattle.session.specs.Answers.{delivered_of, replay_leaves}
 
 same_number : {A : Type 0} {m n : ℕ} → ◌≡◌ {A = Answer A} (refused m) (refused n) → m ≡ n
 same_number e = cc
@@ -28,37 +26,25 @@ same_number e = cc
 given : {A : Type 0} {a b : A} → ◌≡◌ {A = Answer A} (accepted a) (accepted b) → a ≡ b
 given e = cc
 
--- No two answers of the code stand for one answer.
-pub running_one : (a b : Running) → running_of a ≡ running_of b → a ≡ b
-running_one (running.Open s) (running.Open t) e = cc
-running_one (running.Open s) (running.Refused n) e = apart (sym e)
-running_one (running.Refused m) (running.Open t) e = apart e
-running_one (running.Refused m) (running.Refused n) e = cc
-
 -- TAKEN is not HELD.
 numbers_differ : {A : Type 0} {s t : Session} → taken s ≡ already_held t → A
 numbers_differ e =
     let wrong : TAKEN ≡ HELD = ap (λ d. d.number) e in
     absurd (omega (arith, wrong))
 
-pub delivered_one : (a b : Delivered) → delivered_of a ≡ delivered_of b → a ≡ b
-delivered_one (delivered.Taken s) (delivered.Taken t) e =
-    ap delivered.Taken (ap (λ d. d.session) (given e))
-delivered_one (delivered.Taken s) (delivered.Held t) e = numbers_differ (given e)
-delivered_one (delivered.Taken s) (delivered.Refused n) e = apart (sym e)
-delivered_one (delivered.Held s) (delivered.Taken t) e = numbers_differ (sym (given e))
-delivered_one (delivered.Held s) (delivered.Held t) e =
-    ap delivered.Held (ap (λ d. d.session) (given e))
-delivered_one (delivered.Held s) (delivered.Refused n) e = apart (sym e)
-delivered_one (delivered.Refused m) (delivered.Taken t) e = apart e
-delivered_one (delivered.Refused m) (delivered.Held t) e = apart e
-delivered_one (delivered.Refused m) (delivered.Refused n) e = cc
-
-pub digested_one : (a b : Digested) → digested_of a ≡ digested_of b → a ≡ b
-digested_one (digested.Value v) (digested.Value w) e = cc
-digested_one (digested.Value v) (digested.Refused n) e = apart (sym e)
-digested_one (digested.Refused m) (digested.Value w) e = apart e
-digested_one (digested.Refused m) (digested.Refused n) e = cc
+-- No two answers to a delivery stand for one answer.
+pub delivered_one : (a b : Result Delivered Refusal) → delivered_of a ≡ delivered_of b → a ≡ b
+delivered_one (Ok (delivered.Taken s)) (Ok (delivered.Taken t)) e =
+    ap (λ s. Ok (delivered.Taken s)) (ap (λ d. d.session) (given e))
+delivered_one (Ok (delivered.Taken s)) (Ok (delivered.Held t)) e = numbers_differ (given e)
+delivered_one (Ok (delivered.Held s)) (Ok (delivered.Taken t)) e = numbers_differ (sym (given e))
+delivered_one (Ok (delivered.Held s)) (Ok (delivered.Held t)) e =
+    ap (λ s. Ok (delivered.Held s)) (ap (λ d. d.session) (given e))
+delivered_one (Ok (delivered.Taken s)) (Err r) e = apart (sym e)
+delivered_one (Ok (delivered.Held s)) (Err r) e = apart (sym e)
+delivered_one (Err r) (Ok (delivered.Taken t)) e = apart e
+delivered_one (Err r) (Ok (delivered.Held t)) e = apart e
+delivered_one (Err r) (Err s) e = ap Err (one_refusal r s (same_number e))
 
 -- Nor do two outcomes, with what they leave.
 pub tells_one : {A C : Type 0} {tell : C → A} → ((a b : C) → tell a ≡ tell b → a ≡ b)
@@ -89,21 +75,38 @@ outcome_iff {tell = tell} one l a out says this b told = (
   λ e. tells_one one out this (says ∙ ap (leaves l) e ∙ sym told),
 )
 
--- Of replay, a refusal and what is done.
-module _ (state : List ℤ) (a : Answer (List ℤ)) (out : Filled Replayed ℤ)
-    (says : out ≡ replay_leaves state a) where
-  pub replay_refuses : (n : ℕ) → (out ≡ filled (replayed.Refused n) state) ↔ (a ≡ refused n)
-  replay_refuses n = (λ e. go a (sym says ∙ e), λ e. says ∙ ap (replay_leaves state) e)
-    where
-      go : (b : Answer (List ℤ)) → replay_leaves state b ≡ filled (replayed.Refused n) state
-          → b ≡ refused n
-      go (refused m) e = ap refused (cc (ap (λ x. x.answer) e))
-      go (accepted m) e = cc (ap (λ x. x.answer) e)
+-- Of a call that leaves nothing, an outcome by what the order answers.
+pub answer_iff : {A : Type 0} {a : Answer A} {out : Result A Refusal} → answer_of out ≡ a
+    → (this : Result A Refusal) → (out ≡ this) ↔ (a ≡ answer_of this)
+answer_iff {out = out} says this = (
+  λ e. sym says ∙ ap answer_of e,
+  λ e. one_answer out this (says ∙ e),
+)
 
-  pub replay_does : (after : List ℤ) → (out ≡ filled replayed.Done after) ↔ (a ≡ accepted after)
-  replay_does after = (λ e. go a (sym says ∙ e), λ e. says ∙ ap (replay_leaves state) e)
-    where
-      go : (b : Answer (List ℤ)) → replay_leaves state b ≡ filled replayed.Done after
-          → b ≡ accepted after
-      go (refused m) e = cc (ap (λ x. x.answer) e)
-      go (accepted m) e = ap accepted (ap (λ x. x.out) e)
+-- So of replay, which leaves a state alone.
+abbrev pub told : Filled (Result (Unit {0}) Refusal) ℤ → Filled (Answer (Unit {0})) ℤ
+told out = filled (answer_of out.answer) out.out
+
+pub told_one : (x y : Filled (Result (Unit {0}) Refusal) ℤ) → told x ≡ told y → x ≡ y
+told_one x y e =
+    same (one_answer x.answer y.answer (ap (λ f. f.answer) e)) (ap (λ f. f.out) e)
+  where
+    same : x.answer ≡ y.answer → x.out ≡ y.out → x ≡ y
+    same p q = rw (p, q)
+
+replay_one : (state : List ℤ) (x y : Answer (List ℤ))
+    → replay_leaves state x ≡ replay_leaves state y → x ≡ y
+replay_one state (refused m) (refused n) e = ap refused (same_number (ap (λ f. f.answer) e))
+replay_one state (refused m) (accepted s) e = apart (ap (λ f. f.answer) e)
+replay_one state (accepted s) (refused n) e = apart (sym (ap (λ f. f.answer) e))
+replay_one state (accepted s) (accepted t) e = ap accepted (ap (λ f. f.out) e)
+
+pub replay_iff : (state : List ℤ) (a : Answer (List ℤ))
+    (out : Filled (Result (Unit {0}) Refusal) ℤ) → told out ≡ replay_leaves state a
+    → (this : Filled (Result (Unit {0}) Refusal) ℤ) (b : Answer (List ℤ))
+    → told this ≡ replay_leaves state b
+    → (out ≡ this) ↔ (a ≡ b)
+replay_iff state a out says this b alike = (
+  λ e. replay_one state a b (sym says ∙ ap told e ∙ alike),
+  λ e. told_one out this (says ∙ ap (replay_leaves state) e ∙ sym alike),
+)

@@ -4,9 +4,13 @@ use mathlib.Core.Path.{◌≡◌, refl, sym, ◌∙◌}
 use mathlib.Core.Logic.Iff
 use mathlib.Core.Logic.{◌↔◌}
 use lib.Dec.{leb}
+use Rattle.std.specs.Prelude.{Result}
 use Rattle.basis.specs.Numbers.{FAULT, BACKWARD, END, most_steps, step_length}
 use Rattle.basis.specs.Order.{Answer, refused, accepted, Order, check, give, answer, and_then}
+use Rattle.basis.specs.Refusal.{answer_of}
+use Rattle.basis.specs.declared.Refusal.{Refusal}
 use Rattle.basis.proofs.Tests.{says_le}
+use Rattle.basis.proofs.Refusals.{one_answer}
 use Rattle.basis.proofs.Ladder.{differs, not_le, flat_three, flat_four, here_iff, later_iff}
 use Rattle.basis.proofs.Ladder.{pass_iff, give_iff, lacks_give, lacks_check, implied}
 use Rattle.clock.specs.Clock.{due, sound_clock}
@@ -14,18 +18,16 @@ use Rattle.clock.specs.Reading.{given_by, clock_order}
 use Rattle.clock.proofs.Readings.{equal_reading}
 use Rattle.fleet.specs.Run.{run_saving}
 use Rattle.session.specs.declared.Session.{Session}
-use Rattle.session.specs.declared.Running.{Running}
 use Rattle.session.specs.Lent.{Lent, Made, tells, leaves, as_before}
 use Rattle.session.specs.Sound.{sound}
 use Rattle.session.specs.Calls.{read_on, reading_order}
-use Rattle.session.specs.Answers.{running_of}
 use Rattle.session.specs.Says.{ReadingSays}
 use Rattle.session.specs.Facts.{Sound}
 use Rattle.session.proofs.Good.{good}
 use Rattle.session.proofs.Readings.{clock_gives}
 use Rattle.session.proofs.Facts.{sound_means}
 use Rattle.demands.specs.Numbers.{ReadingNumbers}
-use Rattle.demands.proofs.Outcomes.{running_one, outcome_iff}
+use Rattle.demands.proofs.Outcomes.{outcome_iff}
 
 module _ (session : Session) (t : ℕ) (l : Lent) where
   abbrev reads : Answer (Made Session)
@@ -100,11 +102,12 @@ equal_given session l s =
     let clock = equal_reading step_length session.clock (good session l ok).clock in
     clock_gives session l session.clock.last ok _ clock
 
-module _ (session : Session) (t : ℕ) (l : Lent) (out : Made Running)
+module _ (session : Session) (t : ℕ) (l : Lent) (out : Made (Result Session Refusal))
     (says : ReadingSays session t l out) where
-  by : (this : Made Running) (a : Answer (Made Session)) → tells running_of this ≡ leaves l a
+  by : (this : Made (Result Session Refusal)) (a : Answer (Made Session))
+      → tells answer_of this ≡ leaves l a
       → (out ≡ this) ↔ (answer (reading_order session l t) ≡ a)
-  by = outcome_iff running_one l (answer (reading_order session l t)) out says
+  by = outcome_iff one_answer l (answer (reading_order session l t)) out says
 
   pub reading_numbers : ReadingNumbers session t l out
   reading_numbers =

@@ -15,7 +15,7 @@ use Rattle.course.specs.Calls.{Reached as ModelReached}
 use Rattle.course.proofs.Kept.{Kept, kept_opening, kept_next, kept_run}
 use Rattle.course.proofs.Words.{flatten_replicate}
 use Rattle.session.specs.Lent.{Lent, lent}
-use Rattle.session.proofs.Room.{room_says}
+use Rattle.session.proofs.Facts.{room_fits}
 use Rattle.session.proofs.Openings.{opened_says}
 use Rattle.demands.specs.Handed.{Handed, hands_on, next, after_calls}
 use Rattle.demands.specs.Handed.{Opened, Reached}
@@ -65,11 +65,11 @@ module _ {world : World} {first : ℕ} {h : Handed} (o : Opened world first h) w
   pub opens : Opens world
   opens =
       let passes = (opened_says _ first lent_then o.accepts).0 in
-      let room = room_says world.yard lent_then passes.long in
+      let room = (room_fits world.yard lent_then).0 passes.long in
       record {
         ranges = passes.ranges;
-        laid = room.world.cells;
-        room = room.world.boxes;
+        laid = room.lengths.cell_bytes;
+        room = room.lengths.world_words;
         cells = passes.cell;
         sizes = passes.sizes;
         starts = passes.starts;

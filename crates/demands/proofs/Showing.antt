@@ -1,38 +1,34 @@
 -- The digest and the shown place, number by number: of what their orders answer, and of whatever
 -- their contracts allow.
 use Prim.Native.Nat.{ℕ, ◌-◌, ◌<◌, ◌≤◌}
-use mathlib.Core.Path.{◌≡◌, refl, sym, ap, ◌∙◌}
+use mathlib.Core.Path.{◌≡◌, refl}
 use mathlib.Core.Logic.Iff
 use mathlib.Core.Logic.{◌↔◌, ◌⊎◌, ⊎_elim, inl, inr}
 use mathlib.Core.Bool.{Bool, true, false, cond}
 use native.Mathlib.Omega.{arith}
 use borrow.Author.Tests.{eqb-true, eqb-false}
 use lib.Dec.{ltb, eqb}
+use Rattle.std.specs.Prelude.{Result, Ok, Err}
 use Rattle.basis.specs.Numbers.{FAULT, CARRIER}
 use Rattle.basis.specs.Order.{refused, accepted, Order, check, give, answer}
+use Rattle.basis.specs.declared.Refusal.{Refusal}
+use Rattle.basis.specs.declared.Refusal.TheVariants as why
 use Rattle.basis.proofs.Tests.{says_lt}
 use Rattle.basis.proofs.Ladder.{differs, not_lt, here_iff, both_iff, later_iff, pass_iff, give_iff}
 use Rattle.basis.proofs.Ladder.{lacks_give, lacks_check}
 use Rattle.digest.specs.Fnv.{digest_of}
 use Rattle.digest.specs.Words.{state_bytes}
-use Rattle.shown.specs.Answer.{shown_answer}
 use Rattle.shown.specs.declared.Place.{Place}
-use Rattle.shown.specs.declared.Shown.{Shown}
-use Rattle.shown.specs.declared.Shown.TheVariants as shown
-use Rattle.shown.proofs.Statements.{determined as shownDetermined}
 use Rattle.fleet.specs.State.{sound_state}
 use Rattle.fleet.proofs.Carriers.{state_sound}
 use Rattle.session.specs.declared.Session.{Session}
-use Rattle.session.specs.declared.Digested.{Digested}
-use Rattle.session.specs.declared.Digested.TheVariants as digested
 use Rattle.session.specs.Lent.{Lent, world_in}
 use Rattle.session.specs.Calls.{digest_order, shown_order, shown_of, previous, row_in}
-use Rattle.session.specs.Answers.{digested_of}
 use Rattle.session.specs.Says.{DigestSays, ShownSays}
 use Rattle.session.specs.Facts.{Sound, RowSound}
 use Rattle.session.proofs.Facts.{sound_means}
 use Rattle.demands.specs.Numbers.{DigestNumbers, ShownNumbers}
-use Rattle.demands.proofs.Outcomes.{digested_one}
+use Rattle.demands.proofs.Outcomes.{answer_iff}
 
 module _ (session : Session) (l : Lent) where
   abbrev value : ℕ
@@ -47,14 +43,12 @@ module _ (session : Session) (l : Lent) where
   unfolding digest_order
   digest_given v = pass_iff (sound_means session l) FAULT (give value) (give_iff value)
 
-  pub digest_numbers : (out : Digested) → DigestSays session l out → DigestNumbers session l out
+  pub digest_numbers : (out : Result ℕ Refusal) → DigestSays session l out
+      → DigestNumbers session l out
   digest_numbers out says =
-      let by : (this : Digested)
-      → (out ≡ this) ↔ (answer (digest_order session l) ≡ digested_of this) =
-      λ this. (λ e. sym says ∙ ap digested_of e, λ e. digested_one out this (says ∙ e)) in
       record {
-        fault = Iff.trans (by (digested.Refused 14)) digest_fault;
-        value = Iff.trans (by (digested.Value value))
+        fault = Iff.trans (answer_iff says (Err why.Fault)) digest_fault;
+        value = Iff.trans (answer_iff says (Ok value))
             (Iff.trans (digest_given value) (λ (s, e). s, λ s. (s, refl)));
       }
 
@@ -145,18 +139,13 @@ module _ (session : Session) (l : Lent) where
           λ (g, h, f, e). (g, (h, ((before g).1 f, e))),
         )
 
-    pub shown_numbers : (out : Shown) → ShownSays session i l out → ShownNumbers session i l out
+    pub shown_numbers : (out : Result Place Refusal) → ShownSays session i l out
+        → ShownNumbers session i l out
     shown_numbers out says =
-        let by : (this : Shown)
-        → (out ≡ this) ↔ (answer (shown_order session l i) ≡ shown_answer this) =
-        λ this. (
-          λ e. sym says ∙ ap shown_answer e,
-          λ e. shownDetermined.answer (shown_answer this) out this (says ∙ e) refl,
-        ) in
         record {
-          fault = Iff.trans (by (shown.Refused 14)) shown_fault;
-          carrier = Iff.trans (by (shown.Refused 3)) shown_carrier;
-          place = Iff.trans (by (shown.At at))
+          fault = Iff.trans (answer_iff says (Err why.Fault)) shown_fault;
+          carrier = Iff.trans (answer_iff says (Err why.Carrier)) shown_carrier;
+          place = Iff.trans (answer_iff says (Ok at))
               (Iff.trans (shown_given at)
               (λ (s, h, f, e). (s, h, f), λ (s, h, f). (s, h, f, refl)));
         }

@@ -46,7 +46,7 @@ module _ (session : Session) (l : Lent) (i : ℕ) (place : Place)
       let g = good session l s in
       let h = (sound_says g.clock).remainder in
       let long : Fits w32 step_length = record { fits = omega arith } in
-      let fits = place_fits (world_in session l) (world_fits session l g) in
+      let fits = place_fits (world_in session l) (world_fits session l s) in
       let p = fits (previous session l) row i (ltb-true _ _ below) in
       let c = fits l.state g.state i (ltb-true _ _ below) in
       rw (← given _ e₃)

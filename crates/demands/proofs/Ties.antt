@@ -20,7 +20,7 @@ use Rattle.record.proofs.Placing.{place_alike}
 use Rattle.record.proofs.Climbs.{ascends}
 use Rattle.record.proofs.Insertion.{length_put_in, length_buffer}
 use Rattle.record.proofs.Buffers.{buffer_sound, buffer_records}
-use Rattle.clock.specs.Reading.{Given}
+use Rattle.clock.specs.declared.Given.{Given}
 use Rattle.clock.proofs.Sound.{is_sound}
 use Rattle.fleet.specs.State.{World, state_words}
 use Rattle.fleet.specs.Step.{step_at}

@@ -5,12 +5,12 @@ use mathlib.Core.Logic.Iff
 use mathlib.Core.Logic.{◌↔◌, ◌⊎◌, ⊎_elim, inl, inr}
 use mathlib.Core.Bool.{Bool, true, false, cond, ◌&&◌}
 use mathlib.Core.List.{List}
-use mathlib.Core.Option.{Option, none, some, none-ne-some}
 use native.Mathlib.Omega.{arith}
 use borrow.Author.Tests.{eqb-true, eqb-false}
 use lib.Dec.{lit≤, leb, eqb}
 use lib.IntN.{ℤ}
 use lib.ListN.{length}
+use Rattle.std.specs.Prelude.{Option, None, Some}
 use Rattle.basis.specs.Filled.{Filled, filled}
 use Rattle.basis.specs.LittleEndian.{Bytes}
 use Rattle.basis.specs.Order.{Answer, refused, accepted, Order, answer, and_then}
@@ -41,7 +41,8 @@ use Rattle.session.specs.declared.Session.{Session}
 use Rattle.session.proofs.Deliveries.{place_order}
 use Rattle.session.proofs.Facts.{lengths_fit, room_fits, sound_means}
 use Rattle.session.proofs.Good.{good}
-use Rattle.station.specs.Face.{open_face, reading_face, deliver_face, digest_face, shown_face, shows}
+use Rattle.station.specs.Face.{open_face, reading_face, deliver_face, digest_face, shown_face}
+use Rattle.station.specs.Face.{shows}
 use Rattle.station.specs.Face.{step_records_face, read_record_face, write_record_face}
 use Rattle.station.specs.Left.{Left, left, fills, leaves_running, leaves_delivered}
 use Rattle.station.specs.Says.{LogSoundSays, DeliverSays}
@@ -118,7 +119,7 @@ module _ (l : Lent) (words : List ℕ) (out : Left) where
             ap (left 1 l.state l.rows l.log) (nine_words.words words nine),
           ))
 
-some_one : {a b : ℕ} → ◌≡◌ {A = Option ℕ} (some a) (some b) → a ≡ b
+some_one : {a b : ℕ} → ◌≡◌ {A = Option ℕ} (Some a) (Some b) → a ≡ b
 some_one e = cc
 
 formed : (bytes : List ℕ) → (well_formed bytes ≡ true) ↔ Formed bytes
@@ -158,7 +159,7 @@ log_numbers log out says n = go (sound_log 32 log) refl
 
 -- 'then 1 or 6, then 7, 8, and last 14 for the row to be brought back', of a sound session.
 module _ (s : Session) (l : Lent) (r : Record) (are : Bytes l.log) (sound : Sound s l) where
-  here : (lever : ℕ) → (lever_at r.step r.carrier (held_in s l) ≡ some lever)
+  here : (lever : ℕ) → (lever_at r.step r.carrier (held_in s l) ≡ Some lever)
       ↔ HeldHere s l r lever
   here lever = (
     lever_held (held_in s l),
@@ -189,20 +190,20 @@ module _ (s : Session) (l : Lent) (r : Record) (are : Bytes l.log) (sound : Soun
           (by_lever r (found_in s l r) (unchanged s l) (take_in s l r) o) (place_numbers s l r)
 
       go : (o : Option ℕ) → lever_at r.step r.carrier (held_in s l) ≡ o → Placed o
-      go (some lever) e = lever_decides (eqb lever r.lever) refl
+      go (Some lever) e = lever_decides (eqb lever r.lever) refl
         where
           at : HeldHere s l r lever
           at = (here lever).0 e
 
-          lever_decides : (t : Bool) → eqb lever r.lever ≡ t → Placed (some lever)
+          lever_decides : (t : Bool) → eqb lever r.lever ≡ t → Placed (Some lever)
           lever_decides true q =
               passed q (present refl same (subst (HeldHere s l r) (eqb-true _ _ q) at))
           lever_decides false q =
               absent (λ h. eqb-false _ _ q (some_one (sym e ∙ (here r.lever).1 h)))
               (rung refl (λ _ f. f lever at, λ _. q) λ k. never k q)
-      go none e =
+      go None e =
           let nothing : NoneHere s l r =
-          λ lever h. none-ne-some lever (sym e ∙ (here lever).1 h) in
+          λ lever h. cc (sym e ∙ (here lever).1 h) in
           absent (nothing r.lever)
           (absent (λ f. f nothing)
           (rung refl (else_le _ _) λ _.
@@ -232,7 +233,8 @@ row_before s l sound = go (eqb s.clock.steps 0) refl
         (λ q. (made, f.0 q), λ h. f.1 h.1)
 
 pub open_by : (yard : Yard) (t : ℕ) (l : Lent) (words : List ℕ)
-    → By 2 all_done (λ m. m ≡ opened yard t l) (open_face yard t l words) (open_numbers yard l words)
+    → By 2 all_done (λ m. m ≡ opened yard t l) (open_face yard t l words)
+    (open_numbers yard l words)
 unfolding open_face open_order world_order and_then
 open_by yard t l words =
     rung refl (else_fact _ (ranges yard)) λ fit.
@@ -271,8 +273,9 @@ deliver_by bytes l words are =
     (inr (refl, eqb-true _ _ nine)) (inl refl)
 
 pub exactly_when : ExactlyWhen
-unfolding replay_order world_order digest_face digest_order shown_face shown_order shows step_records_face
-    read_record_face write_record_face read_order write_order limits_order and_then
+unfolding replay_order world_order digest_face digest_order shown_face shown_order shows
+    step_records_face read_record_face write_record_face read_order write_order limits_order
+    and_then
 exactly_when =
     record {
       opens = λ yard t l words out says. opened_by l words out _ says (open_by yard t l words);

@@ -4,19 +4,18 @@ use mathlib.Core.Path.{◌≡◌, refl, ◌∙◌}
 use mathlib.Core.Logic.Iff
 use mathlib.Core.Logic.{◌↔◌, ◌≢◌}
 use mathlib.Core.List.{List}
-use mathlib.Core.Option.{Option, some}
+use Rattle.std.specs.Prelude.{Option, Some}
 use mathlib.Core.Bool.{Bool, true, false, cond, ◌&&◌}
 use native.Mathlib.Omega.{arith}
 use lib.IntN.{ℤ, pos}
 use lib.ListN.{length}
 use lib.Dec.{eqb, ltb}
 use borrow.Author.Tests.{eqb-true, eqb-false, ltb-true, ltb-false}
-use Rattle.basis.specs.declared.HeldLever.{HeldLever}
-use Rattle.basis.specs.HeldLever.{held_of}
 use Rattle.basis.proofs.Lists.{paste_at, paste_before, paste_after}
 use Rattle.record.specs.Buffer.{lever_at}
+use Rattle.record.specs.Log.{records_of}
 use Rattle.record.specs.declared.bytes.Record.{Record}
-use Rattle.record.proofs.Logs.{AllWithin, done, more}
+use Rattle.record.proofs.Logs.{AllWithin, done, more, all_within}
 use Rattle.yard.specs.declared.carrier.Carrier.{Carrier}
 use Rattle.yard.specs.Boxes.{size_of}
 use Rattle.yard.specs.Free.{free}
@@ -27,7 +26,7 @@ use Rattle.yard.proofs.Soundness.{good_of, of_good, rule, step_sound}
 use Rattle.fleet.specs.State.{World, carrier_words, carrier, words_of, put, free_for, sound_state}
 use Rattle.fleet.specs.Step.{step_one, step_to, step_all, step_at}
 use Rattle.fleet.specs.Facts.{CarrierSound, StateSound}
-use Rattle.fleet.specs.Fits.{StateFits}
+use Rattle.fleet.specs.Fits.{LogFits, StateFits}
 use Rattle.fleet.specs.Statements.{EachFree}
 use Rattle.fleet.proofs.Words.{same_words, carrier_is, length_put}
 
@@ -113,7 +112,7 @@ unfolding sound_state
 each_free world state e i l = (good_of _ _ (passes _ _ e i l)).here
 
 -- A carrier's step keeps the state rule.
-module _ (world : World) (held : HeldLever) (i : ℕ) (state : List ℤ) (h : i < world.yard.b)
+module _ (world : World) (held : Option ℕ) (i : ℕ) (state : List ℤ) (h : i < world.yard.b)
     (fits : LeverFits held) (s : StateFits world state) where
   room : carrier_words * i + carrier_words ≤ length state
   room = omega (arith, s.room)
@@ -153,13 +152,13 @@ module _ (world : World) (held : HeldLever) (i : ℕ) (state : List ℤ) (h : i 
   one_keeps = record { room = length_put i _ state room ∙ s.room; sound = all_pass _ _ each }
 
 -- The steps of the carriers below i keep it, and so does a step of all.
-module _ (world : World) (levers : ℕ → Option ℕ) (fits : (i : ℕ) → LeverFits (held_of (levers i)))
+module _ (world : World) (levers : ℕ → Option ℕ) (fits : (i : ℕ) → LeverFits (levers i))
     (state : List ℤ) (s : StateFits world state) where
   pub to_keeps : (i : ℕ) → i ≤ world.yard.b → StateFits world (step_to world levers i state)
   unfolding step_to
   to_keeps zero h = s
   to_keeps (suc i) h =
-      one_keeps world (held_of (levers i)) i (step_to world levers i state) h (fits i)
+      one_keeps world (levers i) i (step_to world levers i state) h (fits i)
       (to_keeps i (omega arith))
 
   pub all_keeps : StateFits world (step_all world levers state)
@@ -168,14 +167,14 @@ module _ (world : World) (levers : ℕ → Option ℕ) (fits : (i : ℕ) → Lev
 
 -- A lever that records within the limits hold is 0 to 9.
 pub lever_fits : {carriers : ℕ} {l : List Record} (t i : ℕ) → AllWithin carriers l
-    → LeverFits (held_of (lever_at t i l))
+    → LeverFits (lever_at t i l)
 unfolding lever_at
 lever_fits t i done = tt
 lever_fits t i (more {r = r} {rest = rest} w a) =
     go (eqb r.step t && eqb r.carrier i) (lever_fits t i a)
   where
-    go : (b : Bool) → LeverFits (held_of (lever_at t i rest))
-        → LeverFits (held_of (cond b (some r.lever) (lever_at t i rest)))
+    go : (b : Bool) → LeverFits (lever_at t i rest)
+        → LeverFits (cond b (Some r.lever) (lever_at t i rest))
     go true f = w.lever
     go false f = f
 
@@ -184,3 +183,15 @@ pub step_keeps : {carriers : ℕ} {l : List Record} (world : World) (t : ℕ) (s
     → AllWithin carriers l → StateFits world state → StateFits world (step_at world l t state)
 step_keeps {l = l} world t state a s =
     all_keeps world (λ i. lever_at t i l) (λ i. lever_fits t i a) state s
+
+-- A log that fits holds levers 0 to 9, and a step under it keeps the state rule.
+module _ {world : World} {log : List ℕ} (fits : LogFits world log) where
+  abbrev pub within : AllWithin world.yard.b (records_of log)
+  within = all_within world.yard.b _ log fits.unrefused
+
+  pub log_lever : (t i : ℕ) → LeverFits (lever_at t i (records_of log))
+  log_lever t i = lever_fits t i within
+
+  pub log_step : (t : ℕ) (state : List ℤ) → StateFits world state
+      → StateFits world (step_at world (records_of log) t state)
+  log_step t state s = step_keeps world t state within s

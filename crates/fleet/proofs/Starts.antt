@@ -1,6 +1,6 @@
 -- The start: each carrier at rest where the world puts it, so sound where rule 9 accepts it; and a
 -- log that rule 13 accepts fits.
-use Prim.Native.Nat.{ℕ, zero, suc, ◌+◌, ◌*◌, ◌/◌, ◌<◌}
+use Prim.Native.Nat.{ℕ, zero, suc, ◌+◌, ◌*◌, ◌<◌}
 use mathlib.Core.Path.{◌≡◌, ◌∙◌}
 use mathlib.Core.List.{List}
 use mathlib.Core.Logic.{⊎_elim}
@@ -8,7 +8,7 @@ use mathlib.Core.Bool.{true}
 use native.Mathlib.Nat.{eq-or-lt_of_le, le_of_suc-le-suc}
 use native.Mathlib.Omega.{arith}
 use lib.IntN.{ℤ, pos}
-use lib.ListN.{length, get_or-append}
+use lib.ListN.{get_or-append}
 use lib.Seq.{get_or-append-add}
 use Rattle.record.specs.Log.{sound_log}
 use Rattle.record.proofs.Logs.{sound}
@@ -78,7 +78,7 @@ start_fits yard cells boxes e =
 
 -- A log that rule 13 lets pass, whole.
 pub log_fits : (world : World) (log : List ℕ) → sound_log world.yard.b log ≡ true
-    → LogFits world (length log / 8) log
+    → LogFits world log
 log_fits world log e =
     let s = sound world.yard.b log e in
-    record { few = s.few; room = omega arith; unrefused = s.unrefused; ascends = s.ascends }
+    record { few = s.few; unrefused = s.unrefused; ascends = s.ascends }

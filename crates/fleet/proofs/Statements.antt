@@ -1,10 +1,9 @@
 -- The statements of specs/Statements.antt, proved.
 use Rattle.basis.proofs.Order.{one_result}
-use Rattle.record.proofs.Logs.{all_within}
 use Rattle.fleet.specs.Statements.{Words, FreeFor, Start, StateRule, OneStep, Runs, SavedRows}
 use Rattle.fleet.specs.Statements.{Determined, GoingBack}
 use Rattle.fleet.proofs.Words.{only_carriers, length_put, length_start}
-use Rattle.fleet.proofs.Carriers.{carrier_put, carrier_other, all_keeps, step_keeps}
+use Rattle.fleet.proofs.Carriers.{carrier_put, carrier_other, all_keeps, log_step, within}
 use Rattle.fleet.proofs.Carriers.{free_as_yard, free_own, free_stays, state_sound}
 use Rattle.fleet.proofs.Starts.{carrier_start, start_sound}
 use Rattle.fleet.proofs.Steps.{each_moved, same_all}
@@ -50,9 +49,7 @@ one_step =
       each = each_moved;
       same = same_all;
       stays = λ world levers state fits s. all_keeps world levers fits state s;
-      log =
-          λ world held log t state l s.
-          step_keeps world t state (all_within _ held log l.unrefused) s;
+      log = λ world log t state l. log_step l t state;
     }
 
 pub runs : Runs
@@ -61,9 +58,7 @@ runs =
       joined = joined;
       joined_saving = saving_joined;
       state = saving_state;
-      stays =
-          λ world held log t k state l s.
-          run_keeps world _ t k state (all_within _ held log l.unrefused) s;
+      stays = λ world log t k state l s. run_keeps world _ t k state (within l) s;
       same = same_run;
       same_saving = saving_same;
     }

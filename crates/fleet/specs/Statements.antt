@@ -1,11 +1,9 @@
 -- What is claimed of the fleet. proofs/Statements.antt proves each record whole.
-use Rattle.std.specs.Prelude.{ℕ, ◌+◌, ◌*◌, ◌-◌, ◌≤◌, ◌<◌, ◌≡◌, ◌↔◌, ◌≢◌, true, List, ℤ, length}
-use Rattle.std.proofs.Math.Option.{Option}
+use Rattle.std.specs.Prelude.{ℕ, ◌+◌, ◌*◌, ◌-◌, ◌≤◌, ◌<◌, ◌≡◌, ◌↔◌, ◌≢◌, true, Option, List, ℤ, length}
 use Rattle.basis.specs.Numbers.{row_count}
 use Rattle.basis.specs.Order.{Determines}
-use Rattle.basis.specs.HeldLever.{held_of}
 use Rattle.record.specs.declared.bytes.Record.{Record}
-use Rattle.record.specs.Log.{records}
+use Rattle.record.specs.Log.{records_of}
 use Rattle.record.specs.Buffer.{lever_at}
 use Rattle.yard.specs.declared.carrier.Carrier.{Carrier}
 use Rattle.yard.specs.Boxes.{word, size_of}
@@ -89,19 +87,19 @@ pub record OneStep : Type 0 where
   pub each : (world : World) (levers : ℕ → Option ℕ) (state : List ℤ)
       → length state ≡ state_words world → (i : ℕ) → i < world.yard.b
       → carrier i (step_all world levers state)
-      ≡ step (free_for world i (step_to world levers i state)) (held_of (levers i)) (carrier i state)
+      ≡ step (free_for world i (step_to world levers i state)) (levers i) (carrier i state)
   -- No lever but those of the B carriers plays a part.
   pub same : (world : World) (levers other : ℕ → Option ℕ) (state : List ℤ)
       → ((i : ℕ) → i < world.yard.b → levers i ≡ other i)
       → step_all world levers state ≡ step_all world other state
   -- A sound state stays sound and keeps its number of words, under any levers 0 to 9.
   pub stays : (world : World) (levers : ℕ → Option ℕ) (state : List ℤ)
-      → ((i : ℕ) → LeverFits (held_of (levers i))) → StateFits world state
+      → ((i : ℕ) → LeverFits (levers i)) → StateFits world state
       → StateFits world (step_all world levers state)
   -- So it does under the records of any sound log.
-  pub log : (world : World) (held : ℕ) (log : List ℕ) (t : ℕ) (state : List ℤ)
-      → LogFits world held log → StateFits world state
-      → StateFits world (step_at world (records held log) t state)
+  pub log : (world : World) (log : List ℕ) (t : ℕ) (state : List ℤ)
+      → LogFits world log → StateFits world state
+      → StateFits world (step_at world (records_of log) t state)
 
 -- Two lists of records hold the same levers for k steps from step t on.
 abbrev pub Agree : World → ℕ → ℕ → List Record → List Record → Type 0
@@ -121,9 +119,9 @@ pub record Runs : Type 0 where
   pub state : (world : World) (list : List Record) (t k : ℕ) (course : Course)
       → (run_saving world list t k course).state ≡ run world list t k course.state
   -- A sound state stays sound and keeps its number of words, under the records of any sound log.
-  pub stays : (world : World) (held : ℕ) (log : List ℕ) (t k : ℕ) (state : List ℤ)
-      → LogFits world held log → StateFits world state
-      → StateFits world (run world (records held log) t k state)
+  pub stays : (world : World) (log : List ℕ) (t k : ℕ) (state : List ℤ)
+      → LogFits world log → StateFits world state
+      → StateFits world (run world (records_of log) t k state)
   -- 'records for step n or later .. move nothing', nor do those of steps before the run.
   pub same : (world : World) (list other : List Record) (t k : ℕ) (state : List ℤ)
       → Agree world t k list other

@@ -3,26 +3,23 @@
 
 #![tactic(auto)]
 
-ghost use Rattle.input.specs.Read.{ReadIn};
+ghost use Rattle.std.specs.Prelude.{◌≤◌, length, IfOk};
 
-use std::io::Read;
+use std::io::{self, Read};
 
-#[derive(Clone, Copy)]
-pub enum Input {
-    Read(usize),
-    Failed,
-}
-
-pub fn read_input<R: Read>(from: &mut R, buffer: &mut [u8]) -> Input
-    ensures read { ReadIn result buffer.new }
+// How many bytes stand at the front of the buffer: never more than it holds. Which bytes they are
+// isn't said, nor anything of a failed read.
+pub fn read_input<R: Read>(from: &mut R, buffer: &mut [u8]) -> io::Result<usize>
+    ensures read { IfOk result (λ n. n ≤ length buffer.new) }
 {
     let mut n = 0;
+    // `n` is what has been read, and each read says how much more: no index is counted.
     while n < buffer.len() {
-        match from.read(&mut buffer[n..]) {
-            Ok(0) => return Input::Read(n),
-            Ok(more) => n += more,
-            Err(_) => return Input::Failed,
+        let more = from.read(&mut buffer[n..])?;
+        if more == 0 {
+            break;
         }
+        n += more;
     }
-    Input::Read(n)
+    Ok(n)
 }

@@ -1,7 +1,7 @@
 // Document 01, 'Going back': late records, repeats, orders, and the log when it is full.
 use record::Record;
 use std::io;
-use test_desk::{Desk, say};
+use test_desk::{Practised, say};
 
 pub fn run(rt: &impl Print) -> io::Result<()> {
     window(rt)?;
@@ -11,8 +11,8 @@ pub fn run(rt: &impl Print) -> io::Result<()> {
 }
 
 // 100 steps made, and the carrier on its way.
-fn under_way(rt: &impl Print) -> io::Result<Desk> {
-    let k = Desk::open(rt, 0)?
+fn under_way(rt: &impl Print) -> io::Result<Practised> {
+    let k = Practised::open(rt, 0)?
         .deliver(rt, 0, 0, 1)?
         .deliver(rt, 30, 0, 4)?;
     k.deliver(rt, 60, 0, 9)?.deliver(rt, 92, 0, 8)?.hundred(rt)
@@ -21,7 +21,7 @@ fn under_way(rt: &impl Print) -> io::Result<Desk> {
 fn window(rt: &impl Print) -> io::Result<()> {
     say::title(
         rt,
-        b"100 steps made: step 36 is taken, step 35 is LATE; a repeat is HELD",
+        "100 steps made: step 36 is taken, step 35 is LATE; a repeat is HELD",
     )?;
     let k = under_way(rt)?;
     k.digest(rt)?;
@@ -41,9 +41,9 @@ fn window(rt: &impl Print) -> io::Result<()> {
 fn held(rt: &impl Print) -> io::Result<()> {
     say::title(
         rt,
-        b"100 steps made, step 35 already held: the same lever is HELD, another 6",
+        "100 steps made, step 35 already held: the same lever is HELD, another 6",
     )?;
-    let k = Desk::open(rt, 0)?
+    let k = Practised::open(rt, 0)?
         .deliver(rt, 35, 0, 3)?
         .deliver(rt, 90, 0, 8)?
         .hundred(rt)?;
@@ -52,7 +52,7 @@ fn held(rt: &impl Print) -> io::Result<()> {
 }
 
 fn orders(rt: &impl Print) -> io::Result<()> {
-    say::title(rt, b"two late records, in both orders")?;
+    say::title(rt, "two late records, in both orders")?;
     let k = under_way(rt)?;
     let k = k.deliver(rt, 40, 0, 6)?.deliver(rt, 95, 0, 9)?;
     k.digest(rt)?;
@@ -66,9 +66,9 @@ fn orders(rt: &impl Print) -> io::Result<()> {
 fn full(rt: &impl Print) -> io::Result<()> {
     say::title(
         rt,
-        b"2048 held: another is refused; 1, 6 and 7 come before 8",
+        "2048 held: another is refused; 1, 6 and 7 come before 8",
     )?;
-    let k = filled(Desk::open(rt, 0)?);
+    let k = filled(Practised::open(rt, 0)?);
     k.digest(rt)?;
     let k = k
         .deliver(rt, 2_148, 0, 1)?
@@ -85,16 +85,14 @@ fn full(rt: &impl Print) -> io::Result<()> {
 }
 
 // Records for the steps 100 to 2,147: levers 0 to 9 by turns.
-fn filled(opened: Desk) -> Desk {
+fn filled(opened: Practised) -> Practised {
     let mut k = opened;
-    let mut step = 100;
-    while step < 2_148 {
-        k = k.put(Record {
+    for step in 100..2_148 {
+        let _ = k.hand(&record::bytes_of(Record {
             step,
             carrier: 0,
             lever: (step % 10) as u8,
-        });
-        step += 1;
+        }));
     }
     k
 }

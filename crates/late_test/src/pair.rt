@@ -1,150 +1,74 @@
 // Two carriers in the cells of the practice yard.
 use fleet::{Practice, Rows, State};
-use record::{Buffer, Record};
-use session::Session;
+use record::Record;
 use std::io;
-use test_desk::{answers, say};
+use test_desk::{Desk, say};
 use yard::Yard;
+
+const WORDS: usize = 2 * State::WORDS;
+
+const ROWS: usize = 2 * Rows::COUNT * State::WORDS;
+
+const YARD: Yard = Yard { w: 4, h: 3, b: 2 };
+
+const BOXES: [i32; 8] = [0, 256, 256, 256, 300, 100, 200, 100];
+
+type Pair = Desk<WORDS, ROWS>;
 
 pub fn run(rt: &impl Print) -> io::Result<()> {
     say::title(
         rt,
-        b"two carriers, two late records, in both orders: levers come back with places",
+        "two carriers, two late records, in both orders: levers come back with places",
     )?;
-    let k = twelve(rt)?.deliver(rt, 5, 1, 4)?.deliver(rt, 6, 0, 1)?;
-    k.tell(rt)?;
-    let k = twelve(rt)?.deliver(rt, 6, 0, 1)?.deliver(rt, 5, 1, 4)?;
-    k.tell(rt)?;
-    k.deliver(rt, 5, 1, 4)?
-        .deliver(rt, 5, 1, 5)?
-        .deliver(rt, 5, 2, 4)?
-        .tell(rt)
+    let k = deliver(rt, deliver(rt, twelve(rt)?, 5, 1, 4)?, 6, 0, 1)?;
+    tell(rt, k)?;
+    let k = deliver(rt, deliver(rt, twelve(rt)?, 6, 0, 1)?, 5, 1, 4)?;
+    tell(rt, k)?;
+    let k = deliver(rt, deliver(rt, k, 5, 1, 4)?, 5, 1, 5)?;
+    tell(rt, deliver(rt, k, 5, 2, 4)?)
 }
 
 // 12 steps made under two records for carrier 0.
 fn twelve(rt: &impl Print) -> io::Result<Pair> {
-    let k = Pair::open(rt)?.deliver(rt, 0, 0, 2)?.deliver(rt, 8, 0, 9)?;
-    k.reading(rt, 250_000)
+    let k = deliver(rt, deliver(rt, open(rt)?, 0, 0, 2)?, 8, 0, 9)?;
+    reading(rt, k, 250_000)
 }
 
-#[derive(Clone, Copy)]
-struct Pair {
-    session: Session,
-    state: [i32; 2 * State::WORDS],
-    rows: [i32; 2 * Rows::COUNT * State::WORDS],
-    log: [u8; Buffer::SIZE],
+fn open(rt: &impl Print) -> io::Result<Pair> {
+    let mut k = Pair::sevens(YARD, &BOXES);
+    let answer = k.open_on(YARD, 0, &Practice::CELLS, &BOXES);
+    print!(rt; "open two carriers at 0")?;
+    say::running(rt, answer)?;
+    println!(rt)?;
+    Ok(k)
 }
 
-impl Pair {
-    const YARD: Yard = Yard { w: 4, h: 3, b: 2 };
+fn reading(rt: &impl Print, k: Pair, reading: u64) -> io::Result<Pair> {
+    let mut left = k;
+    let answer = left.read(reading);
+    print!(rt; "reading {reading}")?;
+    say::running(rt, answer)?;
+    println!(rt)?;
+    Ok(left)
+}
 
-    const BOXES: [i32; 8] = [0, 256, 256, 256, 300, 100, 200, 100];
+fn deliver(rt: &impl Print, k: Pair, step: u32, carrier: u8, lever: u8) -> io::Result<Pair> {
+    let r = Record {
+        step,
+        carrier,
+        lever,
+    };
+    let mut left = k;
+    let answer = left.hand(&record::bytes_of(r));
+    say::record(rt, r)?;
+    say::delivered(rt, answer)?;
+    println!(rt)?;
+    Ok(left)
+}
 
-    fn open(rt: &impl Print) -> io::Result<Pair> {
-        let cells = Practice::CELLS;
-        let boxes = Pair::BOXES;
-        let mut state = [7i32; 2 * State::WORDS];
-        let mut rows = [7i32; 2 * Rows::COUNT * State::WORDS];
-        let mut log = [7u8; Buffer::SIZE];
-        let answer = Session::open(
-            Pair::YARD,
-            0,
-            &cells,
-            &boxes,
-            &mut state,
-            &mut rows,
-            &mut log,
-        );
-        let session = answers::running(answer, answers::closed(Pair::YARD));
-        say::text(rt, b"open two carriers at 0")?;
-        answers::say_running(rt, answer)?;
-        say::text(rt, b"\n")?;
-        Ok(Pair {
-            session,
-            state,
-            rows,
-            log,
-        })
-    }
-
-    fn reading(self, rt: &impl Print, reading: u64) -> io::Result<Pair> {
-        let old = self.session;
-        let cells = Practice::CELLS;
-        let boxes = Pair::BOXES;
-        let mut state = self.state;
-        let mut rows = self.rows;
-        let log = self.log;
-        let answer = old.reading(reading, &cells, &boxes, &mut state, &mut rows, &log);
-        let session = answers::running(answer, old);
-        say::named(rt, b"reading", reading)?;
-        answers::say_running(rt, answer)?;
-        say::text(rt, b"\n")?;
-        Ok(Pair {
-            session,
-            state,
-            rows,
-            log,
-        })
-    }
-
-    fn deliver(self, rt: &impl Print, step: u32, carrier: u8, lever: u8) -> io::Result<Pair> {
-        let old = self.session;
-        let cells = Practice::CELLS;
-        let boxes = Pair::BOXES;
-        let mut state = self.state;
-        let mut rows = self.rows;
-        let mut log = self.log;
-        let bytes = record::bytes_of(Record {
-            step,
-            carrier,
-            lever,
-        });
-        let answer = old.deliver(&bytes, &cells, &boxes, &mut state, &mut rows, &mut log);
-        let session = answers::delivered(answer, old);
-        answers::say_record(rt, step, carrier, lever)?;
-        answers::say_delivered(rt, answer)?;
-        say::text(rt, b"\n")?;
-        Ok(Pair {
-            session,
-            state,
-            rows,
-            log,
-        })
-    }
-
-    // The digest, one of all that is lent, and both shown places.
-    fn tell(self, rt: &impl Print) -> io::Result<()> {
-        self.digest(rt)?;
-        say::hex(rt, b", all lent", self.whole())?;
-        say::text(rt, b"\n")?;
-        self.shown(rt, 0)?;
-        self.shown(rt, 1)
-    }
-
-    fn digest(self, rt: &impl Print) -> io::Result<()> {
-        let cells = Practice::CELLS;
-        let boxes = Pair::BOXES;
-        let state = self.state;
-        let rows = self.rows;
-        let log = self.log;
-        let answer = session::digest(self.session, &cells, &boxes, &state, &rows, &log);
-        answers::say_digest(rt, answer)
-    }
-
-    fn whole(self) -> u32 {
-        let state = self.state;
-        let rows = self.rows;
-        let log = self.log;
-        answers::whole(&state, &rows, &log)
-    }
-
-    fn shown(self, rt: &impl Print, carrier: u32) -> io::Result<()> {
-        let cells = Practice::CELLS;
-        let boxes = Pair::BOXES;
-        let state = self.state;
-        let rows = self.rows;
-        let log = self.log;
-        let answer = session::shown(self.session, carrier, &cells, &boxes, &state, &rows, &log);
-        answers::say_shown(rt, carrier, answer)
-    }
+// The digest, one of all that is lent, and both shown places.
+fn tell(rt: &impl Print, k: Pair) -> io::Result<()> {
+    k.say_digest(rt)?;
+    k.say_shown(rt, 0)?;
+    k.say_shown(rt, 1)
 }

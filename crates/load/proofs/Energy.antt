@@ -12,7 +12,7 @@ use Rattle.load.specs.Says.{StepSays}
 use Rattle.load.specs.Energy.{energy, remainder, Run, none, then}
 use Rattle.load.specs.Statements.{Change, Drift}
 use Rattle.load.specs.declared.Load.{Load}
-use Rattle.load.specs.declared.Stepped.TheVariants.{Moved}
+use Rattle.std.specs.Prelude.{Ok}
 use Rattle.load.proofs.Steps.{says_stiffness, accepts}
 use Rattle.load.proofs.Rounding.{remains}
 
@@ -36,7 +36,7 @@ change_of p load =
       shorter = solve values gain (R ⊗ (S ⊕ S')) refl;
     }
 
-pub change : (before : Load) (p : ℕ) (after : Load) → StepSays before p (Moved after)
+pub change : (before : Load) (p : ℕ) (after : Load) → StepSays before p (Ok after)
     → Change p before after
 change before p after says =
     subst (Change p before) (accepts p before after (sym says)).after_is (change_of p before)

@@ -7,29 +7,25 @@ use mathlib.Core.Bool.{Bool, true, false}
 use native.Mathlib.Omega.{arith}
 use borrow.Author.Tests.{leb-true, leb-false}
 use lib.Dec.{leb}
+use Rattle.std.specs.Prelude.{Result, Ok, Err}
 use lib.IntN.{nat_abs}
 use Rattle.basis.specs.Numbers.{LOAD}
 use Rattle.basis.specs.Order.{Answer, refused, accepted, Order, check, give, answer}
+use Rattle.basis.specs.Refusal.{answer_of}
+use Rattle.basis.specs.declared.Refusal.{Refusal}
+use Rattle.basis.specs.declared.Refusal.TheVariants as why
 use Rattle.basis.proofs.Order.{apart}
+use Rattle.basis.proofs.Refusals.{one_answer}
 use Rattle.basis.proofs.Ladder.{here_iff, run_iff, pass_iff, give_iff, lacks_give, not_le}
 use Rattle.load.specs.Facts.{OutOfRange}
-use Rattle.load.specs.Step.{is_stiffness, in_range, moved, step_order, load_answer}
+use Rattle.load.specs.Step.{is_stiffness, in_range, moved, step_order}
 use Rattle.load.specs.Says.{StepSays}
 use Rattle.load.specs.Statements.{StepNumbers}
 use Rattle.load.specs.declared.Load.{Load}
-use Rattle.load.specs.declared.Stepped.{Stepped}
-use Rattle.load.specs.declared.Stepped.TheVariants.{Moved, Refused}
 use Rattle.load.proofs.Steps.{InRange, says_stiffness, says_range}
 
-number_of : {n m : ℕ} → ◌≡◌ {A = Answer Load} (refused n) (refused m) → n ≡ m
-number_of e = cc
-
--- No two outcomes tell the same.
-pub same_answer : (a b : Stepped) → load_answer a ≡ load_answer b → a ≡ b
-same_answer (Moved x) (Moved y) e = let same : x ≡ y = cc in ap Moved same
-same_answer (Moved x) (Refused n) e = apart (sym e)
-same_answer (Refused n) (Moved y) e = apart e
-same_answer (Refused n) (Refused m) e = ap Refused (number_of e)
+same_number : {n m : ℕ} → ◌≡◌ {A = Answer Load} (refused n) (refused m) → n ≡ m
+same_number e = cc
 
 -- Not all of some comparisons hold: one of them fails.
 some_above : (a b : ℕ) {Q M : Type 0} → (Q → ⊥) ↔ M → ((a ≤ b) × Q → ⊥) ↔ ((b < a) ⊎ M)
@@ -104,16 +100,16 @@ module _ (load : Load) (p : ℕ) where
         ⊎_elim (λ e. absurd (nay (is_refused.0 e))) (λ e. e ∙ ap accepted (sym same)) outcome,
   )
 
-  module _ (out : Stepped) (says : StepSays load p out) where
-    tells : (o : Stepped) → (out ≡ o) ↔ (answer (step_order p load) ≡ load_answer o)
-    tells o = (λ e. sym says ∙ ap load_answer e, λ e. same_answer out o (says ∙ e))
+  module _ (out : Result Load Refusal) (says : StepSays load p out) where
+    tells : (o : Result Load Refusal) → (out ≡ o) ↔ (answer (step_order p load) ≡ answer_of o)
+    tells o = (λ e. sym says ∙ ap answer_of e, λ e. one_answer out o (says ∙ e))
 
     pub step_numbers : StepNumbers load p out
     step_numbers =
         record {
-          refused = Iff.trans (tells (Refused 17)) is_refused;
-          moved = λ after. Iff.trans (tells (Moved after)) (is_moved after);
-          only = λ n e.
-              let told = (tells (Refused n)).0 e in
-              ⊎_elim (λ q. number_of (sym told ∙ q)) (λ q. apart (sym told ∙ q)) outcome;
+          refused = Iff.trans (tells (Err why.Load)) is_refused;
+          moved = λ after. Iff.trans (tells (Ok after)) (is_moved after);
+          only = λ refusal e.
+              let told = (tells (Err refusal)).0 e in
+              ⊎_elim (λ q. same_number (sym told ∙ q)) (λ q. apart (sym told ∙ q)) outcome;
         }

@@ -1,36 +1,48 @@
 -- Laws of a step: its ranges as facts, the sizes in it, and the quotient rounded down.
-use Prim.Native.Nat.{ℕ, suc, ◌+◌, ◌*◌, ◌/◌, ◌<◌, ◌≤◌}
+use Prim.Native.Nat.{ℕ, suc, ◌+◌, ◌*◌, ◌/◌, ◌≤◌}
 use mathlib.Core.Path.{◌≡◌, refl, sym, ap, ap₂, ◌∙◌}
 use mathlib.Core.Logic.{◌↔◌}
-use mathlib.Core.Bool.{Bool, true, false}
+use mathlib.Core.Bool.{Bool, true, false, ◌&&◌, and-true}
 use native.Mathlib.Nat.{mul-le-mul}
 use native.Mathlib.Omega.{arith}
-use borrow.Author.Tests.{leb-true, leb-false, le-leb, lt-leb}
-use lib.Dec.{leb}
+use borrow.Author.Tests.{ltb-true, ltb-false, leb-true, le-leb, lt-leb}
+use lib.Dec.{leb, ltb}
 use lib.IntN.{ℤ, pos, negsuc, nat_abs, ◌+ℤ◌, ◌-ℤ◌, ◌*ℤ◌}
-use lib.Signed.{le_z, shr_z}
+use lib.Signed.{shr_z}
 use mir.Syntax.{w32}
 use mir.Val.{SFits, to_z}
 use mir.Facts.{to_z-of_z, to_z_pos}
+use Rattle.std.specs.Prelude.{Some}
+use Rattle.std.specs.Ordering.{partial_le, int_cmp}
 use Rattle.basis.specs.Numbers.{LOAD}
 use Rattle.basis.specs.Order.{Order, check, answer, refused, accepted}
 use Rattle.basis.proofs.Order.{passes, fails, gives, held, given}
-use Rattle.basis.proofs.Tests.{never, and_both, not_left, not_right, says_le, says_two}
+use Rattle.basis.proofs.Tests.{and_both, not_left, not_right, says_le, says_two, alike}
 use Rattle.basis.proofs.Signed.{read, small, abs_add, abs_sub, abs_mul}
 use Rattle.load.specs.Step.{within, in_range, is_stiffness, quotient, speed_after, moved}
 use Rattle.load.specs.Step.{step_order}
 use Rattle.load.specs.declared.Load.{Load}
 
--- The range, as the code tests it.
-pub too_low : (z : ℤ) → le_z (negsuc 32766) z ≡ false → le_z (negsuc 32766) z ≡ within z
-unfolding within
-too_low (pos n) e = never refl e
-too_low (negsuc n) e = e ∙ sym (lt-leb (suc n) 32767 (omega (arith, leb-false n 32766 e)))
+-- At most, by std's order of words: what `contains` asks at each end of a range.
+abbrev orders : ℤ → ℤ → Bool
+orders = partial_le (λ a b. Some (int_cmp a b))
 
-pub not_too_low : (z : ℤ) → le_z (negsuc 32766) z ≡ true → le_z z (pos 32767) ≡ within z
+at_most : (a b : ℕ) → orders (pos a) (pos b) ≡ leb a b
+at_most a b = go (ltb a b) (ltb b a) refl refl
+  where
+    go : (t u : Bool) → ltb a b ≡ t → ltb b a ≡ u → orders (pos a) (pos b) ≡ leb a b
+    go true u e f = rw e (sym (le-leb a b (omega (arith, ltb-true a b e))))
+    go false true e f = rw (e, f) (sym (lt-leb a b (ltb-true b a f)))
+    go false false e f = rw (e, f) (sym (le-leb a b (ltb-false b a f)))
+
+-- The range, as the code tests it.
+pub contains : (z : ℤ) → (orders (negsuc 32766) z && orders z (pos 32767)) ≡ within z
 unfolding within
-not_too_low (pos n) e = refl
-not_too_low (negsuc n) e = sym (le-leb (suc n) 32767 (omega (arith, leb-true n 32766 e)))
+contains (pos n) = at_most n 32767
+contains (negsuc n) =
+    and-true _ ∙ at_most n 32766
+    ∙ alike (says_le n 32766)
+    (λ e. omega (arith, leb-true (suc n) 32767 e), λ h. le-leb (suc n) 32767 (omega arith))
 
 -- The range, as facts.
 abbrev pub InRange : Load → Type 0
@@ -43,12 +55,6 @@ says_range load = says_two (says_le _ _) (says_le _ _)
 -- A stiffness, as facts.
 pub says_stiffness : (p : ℕ) → (is_stiffness p ≡ true) ↔ ((1 ≤ p) × (p ≤ 1024))
 says_stiffness p = says_two (says_le _ _) (says_le _ _)
-
-pub too_soft : (p : ℕ) → p < 1 → is_stiffness p ≡ false
-too_soft p h = not_left (leb 1 p) (leb p 1024) (lt-leb 1 p h)
-
-pub too_stiff : (p : ℕ) → 1024 < p → is_stiffness p ≡ false
-too_stiff p h = not_right (leb 1 p) (leb p 1024) (lt-leb p 1024 h)
 
 -- Behind a test with the same number, a test that fails gives it too.
 behind : {A : Type 0} (n : ℕ) (rest : Order A) (s : Bool) {t : Bool} → t ≡ false
@@ -197,3 +203,6 @@ module _ (p : ℕ) (load : Load) (soft : p ≤ 1024) (range : in_range load ≡ 
 
   pub new_offset_is : read (read load.x +ℤ new_speed p load) ≡ load.x +ℤ speed_after p load
   new_offset_is = ap read sum_is ∙ to_z-of_z {w = w32} place_fits
+
+-- What a step's answers and its words are shown by.
+pub ruleset ways = (bad_state, bad_stiffness, bad_speed, bad_offset, moves, says_stiffness, product_word, difference_word, sum_word, new_speed_is, new_offset_is)

@@ -1,9 +1,8 @@
 -- Document 02, §7: the energy of a load, and steps one after the other.
-use Rattle.std.specs.Prelude.{ℕ, suc, ◌≤◌, ℤ, pos, nat_abs, ◌+ℤ◌, ◌-ℤ◌, ◌*ℤ◌}
+use Rattle.std.specs.Prelude.{ℕ, suc, ◌≤◌, Ok, ℤ, pos, nat_abs, ◌+ℤ◌, ◌-ℤ◌, ◌*ℤ◌}
 use Rattle.load.specs.Step.{D, quotient}
 use Rattle.load.specs.Says.{StepSays}
 use Rattle.load.specs.declared.Load.{Load}
-use Rattle.load.specs.declared.Stepped.TheVariants.{Moved}
 
 -- 'Energy is D·v·v - p·x·v + p·x·x.'
 abbrev pub energy : ℕ → Load → ℤ
@@ -21,6 +20,6 @@ remainder p x = pos p *ℤ x -ℤ pos D *ℤ quotient p x
 pub data Run (p m : ℕ) : ℕ → Load → Load → Type 0 where
   none : {load : Load} → Run p m 0 load load
   then : {n : ℕ} {first before after : Load} → Run p m n first before
-      → StepSays before p (Moved after)
+      → StepSays before p (Ok after)
       → nat_abs after.x ≤ m → nat_abs after.v ≤ m
       → Run p m (suc n) first after

@@ -1,9 +1,9 @@
 -- A table of steps, worked out by hand.
-use Rattle.std.specs.Prelude.{ℕ, ◌≡◌, ℤ, pos, neg_ℤ}
+use Rattle.std.specs.Prelude.{ℕ, ◌≡◌, Ok, Err, ℤ, pos, neg_ℤ}
+use Rattle.basis.specs.declared.Refusal.TheVariants as why
 use Rattle.load.specs.Says.{StepSays}
 use Rattle.load.specs.Energy.{energy, remainder, Run}
 use Rattle.load.specs.declared.Load.{Load}
-use Rattle.load.specs.declared.Stepped.TheVariants.{Moved, Refused}
 
 -- A load at offset x with speed v.
 abbrev pub load_at : ℤ → ℤ → Load
@@ -11,7 +11,7 @@ load_at x v = record { x = x; v = v }
 
 -- A step from one load to another, the remainder r, and the energy before and after.
 pub record Worked (p : ℕ) (before after : Load) (r held kept : ℤ) : Type 0 where
-  pub step : StepSays before p (Moved after)
+  pub step : StepSays before p (Ok after)
   pub rest : remainder p before.x ≡ r
   pub first : energy p before ≡ held
   pub then : energy p after ≡ kept
@@ -30,15 +30,15 @@ pub record Examples : Type 0 where
   pub most : Worked 1 (load_at (neg_ℤ (pos 20)) (pos 9)) (load_at (neg_ℤ (pos 10)) (pos 10))
       (pos 1004) (pos 83524) (pos 102600)
   -- Offset and speed may reach 32,767.
-  pub brink : StepSays (load_at (pos 0) (pos 32767)) 1 (Moved (load_at (pos 32767) (pos 32767)))
+  pub brink : StepSays (load_at (pos 0) (pos 32767)) 1 (Ok (load_at (pos 32767) (pos 32767)))
   -- 'A stiffness .. out of range'
-  pub soft : StepSays (load_at (pos 1) (pos 1)) 0 (Refused 17)
-  pub stiff : StepSays (load_at (pos 1) (pos 1)) 1025 (Refused 17)
+  pub soft : StepSays (load_at (pos 1) (pos 1)) 0 (Err why.Load)
+  pub stiff : StepSays (load_at (pos 1) (pos 1)) 1025 (Err why.Load)
   -- 'or state out of range': by x, though the step would come back into the range; and by v.
-  pub far : StepSays (load_at (pos 32768) (neg_ℤ (pos 1))) 1 (Refused 17)
-  pub fast : StepSays (load_at (neg_ℤ (pos 1)) (neg_ℤ (pos 32768))) 1024 (Refused 17)
+  pub far : StepSays (load_at (pos 32768) (neg_ℤ (pos 1))) 1 (Err why.Load)
+  pub fast : StepSays (load_at (neg_ℤ (pos 1)) (neg_ℤ (pos 32768))) 1024 (Err why.Load)
   -- 'or a step that would leave the range': by x' = 32,768 alone, and by v' = -65,534 alone.
-  pub farther : StepSays (load_at (pos 2) (pos 32766)) 1 (Refused 17)
-  pub faster : StepSays (load_at (pos 32767) (neg_ℤ (pos 32767))) 1024 (Refused 17)
+  pub farther : StepSays (load_at (pos 2) (pos 32766)) 1 (Err why.Load)
+  pub faster : StepSays (load_at (pos 32767) (neg_ℤ (pos 32767))) 1024 (Err why.Load)
   -- Two steps, both of which ended within 445; the load at the beginning is farther.
   pub run : Run 100 445 2 (load_at (pos 500) (neg_ℤ (pos 7))) (load_at (pos 347) (neg_ℤ (pos 98)))

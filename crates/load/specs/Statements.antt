@@ -1,13 +1,14 @@
 -- What is claimed of the hanging load. proofs/Statements.antt proves each record whole.
-use Rattle.std.specs.Prelude.{ℕ, ◌+◌, ◌*◌, ◌≡◌, ◌↔◌, ℤ, pos, ◌+ℤ◌, ◌-ℤ◌, ◌*ℤ◌, ◌≤ℤ◌, ◌<ℤ◌}
+use Rattle.std.specs.Prelude.{ℕ, ◌+◌, ◌*◌, ◌≡◌, ◌↔◌, Result, Ok, Err, ℤ, pos, ◌+ℤ◌, ◌-ℤ◌, ◌*ℤ◌, ◌≤ℤ◌, ◌<ℤ◌}
 use Rattle.basis.specs.Order.{Determines}
+use Rattle.basis.specs.Refusal.{number_of}
+use Rattle.basis.specs.declared.Refusal.{Refusal}
+use Rattle.basis.specs.declared.Refusal.TheVariants as why
 use Rattle.load.specs.Facts.{OutOfRange}
 use Rattle.load.specs.Step.{D, quotient, moved}
 use Rattle.load.specs.Says.{StepSays}
 use Rattle.load.specs.Energy.{energy, remainder, Run}
 use Rattle.load.specs.declared.Load.{Load}
-use Rattle.load.specs.declared.Stepped.{Stepped}
-use Rattle.load.specs.declared.Stepped.TheVariants.{Moved, Refused}
 
 -- 'any two outcomes allowed by it coincide', for the contract of the public entry.
 pub record Determined : Type 0 where
@@ -25,14 +26,14 @@ pub record RoundedDown (p : ℕ) (x : ℤ) : Type 0 where
   pub remainder : (pos 0 ≤ℤ remainder p x) × (remainder p x ≤ℤ pos 1023)
 
 -- A step, number by number.
-pub record StepNumbers (load : Load) (p : ℕ) (out : Stepped) : Type 0 where
+pub record StepNumbers (load : Load) (p : ℕ) (out : Result Load Refusal) : Type 0 where
   -- 17: 'A stiffness or state out of range, or a step that would leave the range'
-  pub refused : (out ≡ Refused 17) ↔ OutOfRange p load (moved p load)
+  pub refused : (out ≡ Err why.Load) ↔ OutOfRange p load (moved p load)
   -- Else it is moved by the step.
-  pub moved : (after : Load) → (out ≡ Moved after)
+  pub moved : (after : Load) → (out ≡ Ok after)
       ↔ ((OutOfRange p load (moved p load) → ⊥) × (after ≡ moved p load))
   -- No number but 17 refuses.
-  pub only : (n : ℕ) → out ≡ Refused n → n ≡ 17
+  pub only : (refusal : Refusal) → out ≡ Err refusal → number_of refusal ≡ 17
 
 -- What an unrefused step does to the energy.
 pub record Change (p : ℕ) (before after : Load) : Type 0 where
@@ -58,8 +59,8 @@ pub record HangingLoad : Type 0 where
   pub speed : (p : ℕ) (load : Load) → (moved p load).v ≡ load.v -ℤ quotient p load.x
   -- then x' = x + v''
   pub offset : (p : ℕ) (load : Load) → (moved p load).x ≡ load.x +ℤ (moved p load).v
-  pub numbers : (load : Load) (p : ℕ) (out : Stepped) → StepSays load p out
+  pub numbers : (load : Load) (p : ℕ) (out : Result Load Refusal) → StepSays load p out
       → StepNumbers load p out
-  pub change : (before : Load) (p : ℕ) (after : Load) → StepSays before p (Moved after)
+  pub change : (before : Load) (p : ℕ) (after : Load) → StepSays before p (Ok after)
       → Change p before after
   pub drift : (p m n : ℕ) (first last : Load) → Run p m n first last → Drift p m n first last

@@ -2,10 +2,8 @@
 use Rattle.std.specs.Prelude.{ℕ, Bool, ◌&&◌, leb, ℤ, pos, nat_abs, ◌+ℤ◌, ◌-ℤ◌, ◌*ℤ◌}
 use Rattle.std.specs.Int.Signed.{shr_z}
 use Rattle.basis.specs.Numbers.{LOAD}
-use Rattle.basis.specs.Order.{Answer, refused, accepted, Order, check, give}
+use Rattle.basis.specs.Order.{Order, check, give}
 use Rattle.load.specs.declared.Load.{Load}
-use Rattle.load.specs.declared.Stepped.{Stepped}
-use Rattle.load.specs.declared.Stepped.TheVariants.{Moved, Refused}
 
 -- 'With D = 1,024'
 abbrev pub D : ℕ
@@ -42,8 +40,3 @@ step_order p load =
     (check (in_range load) LOAD
     (check (in_range (moved p load)) LOAD
     (give (moved p load))))
-
--- The load or the number that each case of the code's answer stands for.
-abbrev pub load_answer : Stepped → Answer Load
-load_answer (Moved load) = accepted load
-load_answer (Refused number) = refused number

@@ -3,23 +3,16 @@
 #![tactic(auto)]
 
 ghost use Rattle.std.specs.Prelude.{◌≡◌};
-ghost use Rattle.load.specs.Step.{within, in_range};
+ghost use Rattle.load.specs.Step.{is_stiffness, within, in_range};
 ghost use Rattle.load.specs.Says.{StepSays};
 
-use basis::Number;
+use basis::Refusal;
 
 // A load's offset and speed.
 #[derive(Clone, Copy)]
 pub struct Load {
     pub x: i32,
     pub v: i32,
-}
-
-// What a step comes to: the load after it, or a refusal by its number.
-#[derive(Clone, Copy)]
-pub enum Stepped {
-    Moved(Load),
-    Refused(u8),
 }
 
 impl Load {
@@ -30,14 +23,23 @@ impl Load {
 
     const SHIFT: u32 = 10;
 
+    // Is it from 1 to 1,024.
+    fn is_stiffness(p: u32) -> bool
+        ensures stiffness { result ≡ is_stiffness p }
+    {
+        (1..=Load::D).contains(&p)
+    }
+
     // Within 32,767 either way.
+    #[tactic(auto, using(crate::proofs::Steps::contains))]
     fn within(z: i32) -> bool
         ensures within { result ≡ within z }
     {
-        -Load::MOST <= z && z <= Load::MOST
+        (-Load::MOST..=Load::MOST).contains(&z)
     }
 
     // Whether offset and speed are in range.
+    #[tactic(auto, unfolding(crate::specs::Step::in_range))]
     fn in_range(self) -> bool
         ensures range { result ≡ in_range self }
     {
@@ -45,31 +47,32 @@ impl Load {
     }
 
     // One step with a stiffness; 17 where one of them, or the load after it, is out of range.
-    pub fn step(self, stiffness: u32) -> Stepped
+    #[tactic(auto, using(crate::proofs::Steps::ways), unfolding(crate::specs::Step::moved))]
+    pub fn step(self, stiffness: u32) -> Result<Load, Refusal>
         ensures stepped { StepSays self stiffness result }
     {
         // Each refusal is 17: the order of the tests is free, and this one is the quickest.
         if !self.in_range() {
-            return Stepped::Refused(Number::LOAD);
+            return Err(Refusal::Load);
         }
-        if stiffness < 1 || Load::D < stiffness {
-            return Stepped::Refused(Number::LOAD);
+        if !Load::is_stiffness(stiffness) {
+            return Err(Refusal::Load);
         }
         let x = self.x;
         let v = self.v;
         // A shift of a signed word rounds down.
         let speed = v - ((stiffness as i32 * x) >> Load::SHIFT);
+        // Each tested alone, which is quicker than both at once.
         if !Load::within(speed) {
-            return Stepped::Refused(Number::LOAD);
+            return Err(Refusal::Load);
         }
         let offset = x + speed;
         if !Load::within(offset) {
-            return Stepped::Refused(Number::LOAD);
+            return Err(Refusal::Load);
         }
-        let after = Load {
+        Ok(Load {
             x: offset,
             v: speed,
-        };
-        Stepped::Moved(after)
+        })
     }
 }

@@ -4,7 +4,6 @@ pub mod Merges
 pub mod Fine
 pub mod Cursors
 pub mod Goes
-pub mod Looks
 pub mod Writes
 pub mod Orders
 pub mod Holds

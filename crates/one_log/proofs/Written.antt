@@ -5,11 +5,13 @@ use mathlib.Core.List.{List, [], ◌∷◌}
 use native.Mathlib.Nat.{not-suc-le-zero}
 use native.Mathlib.Omega.{arith}
 use lib.ListN.{length, set, take}
+use Rattle.std.specs.Prelude.{Ok, Err}
 use Rattle.basis.specs.Filled.{filled}
 use Rattle.basis.specs.Numbers.{most_carriers}
 use Rattle.basis.specs.Order.{answer, refused}
+use Rattle.basis.specs.Refusal.{number_of}
+use Rattle.basis.specs.declared.Refusal.{Refusal}
 use Rattle.merge.specs.Says.{MergeLogsSays}
-use Rattle.merge.specs.declared.Merged.TheVariants as merged
 use Rattle.merge.proofs.Alike.{leaves, its_log, is_refusal}
 use Rattle.merge.proofs.Orders.{said}
 use Rattle.one_log.specs.Written.{program_order, written}
@@ -21,7 +23,7 @@ first_byte (y ∷ l) x h = refl
 module _ (one two out after : List ℕ) (room : length out ≡ 16384) where
   -- A merged log.
   module _ (count : ℕ)
-      (says : MergeLogsSays most_carriers one two out (filled (merged.Count count) after)) where
+      (says : MergeLogsSays most_carriers one two out (filled (Ok count) after)) where
     pub few_bytes : 8 * count ≤ 16384
     few_bytes =
         let w = leaves most_carriers one two out count after says in
@@ -34,11 +36,11 @@ module _ (one two out after : List ℕ) (room : length out ≡ 16384) where
         (ap written (rw room at (leaves most_carriers one two out count after says).answered))
 
   -- A refusal.
-  pub writes_number : (number : ℕ)
-      → MergeLogsSays most_carriers one two out (filled (merged.Refused number) after)
+  pub writes_number : (why : Refusal)
+      → MergeLogsSays most_carriers one two out (filled (Err why) after)
       → 0 < length after
-      → take 1 (set after 0 number) ≡ written (answer (program_order one two))
-  writes_number number says some =
-      let told : said most_carriers (length out) one two ≡ refused number =
-      is_refusal out after (said most_carriers (length out) one two) number (sym says) in
-      first_byte after number some ∙ sym (ap written (rw room at told))
+      → take 1 (set after 0 (number_of why)) ≡ written (answer (program_order one two))
+  writes_number why says some =
+      let told : said most_carriers (length out) one two ≡ refused (number_of why) =
+      is_refusal out after (said most_carriers (length out) one two) (number_of why) (sym says) in
+      first_byte after (number_of why) some ∙ sym (ap written (rw room at told))

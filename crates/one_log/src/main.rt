@@ -3,14 +3,13 @@
 
 #![tactic(auto)]
 
-ghost use Rattle.std.specs.Prelude.{◌≡◌, ◌≤◌, length, take};
+ghost use Rattle.std.specs.Prelude.{◌≡◌, ◌≤◌, length, take, IfSome};
 ghost use Rattle.basis.specs.Order.{answer};
-ghost use Rattle.input.specs.Read.{ReadIn};
 ghost use Rattle.one_log.specs.Written.{program_order, written};
 
 use basis::Limit;
-use input::{Input, read_input};
-use merge::{Merged, merge_logs};
+use input::read_input;
+use merge::merge_logs;
 use record::{Buffer, Record};
 use std::env::Env;
 use std::rt::Files;
@@ -24,29 +23,24 @@ fn program(one: &[u8], two: &[u8], out: &mut [u8]) -> usize
         ≡ written (answer (program_order one.now two.now))) }
 {
     match merge_logs(Limit::CARRIERS, one, two, out) {
-        Merged::Count(count) => Record::SIZE * count,
-        Merged::Refused(number) => {
-            out[0] = number;
+        Ok(count) => Record::SIZE * count,
+        Err(why) => {
+            out[0] = u8::from(why);
             1
         }
     }
 }
 
-// The file that an argument names.
-fn read_argument(rt: &(impl Env + Files), i: usize, buffer: &mut [u8]) -> Input
-    ensures read { ReadIn result buffer.new }
+// How much is read of the file that an argument names; nothing where that fails.
+fn read_argument(rt: &(impl Env + Files), i: usize, buffer: &mut [u8]) -> Option<usize>
+    ensures read { IfSome result (λ n. n ≤ length buffer.new) }
 {
+    // A path of fixed size, so nothing is allocated.
     let mut path = [0u8; 4096];
-    let Ok(n) = rt.arg(i, &mut path) else {
-        return Input::Failed;
-    };
-    let Ok(name) = str::from_utf8(&path[..n]) else {
-        return Input::Failed;
-    };
-    let Ok(mut file) = fs::open(rt, name) else {
-        return Input::Failed;
-    };
-    read_input(&mut file, buffer)
+    let n = rt.arg(i, &mut path).ok()?;
+    let name = str::from_utf8(&path[..n]).ok()?;
+    let mut file = fs::open(rt, name).ok()?;
+    read_input(&mut file, buffer).ok()
 }
 
 fn failed(rt: &impl Eprint) -> io::Result<()> {
@@ -58,10 +52,10 @@ fn main(rt: HostRuntime) -> io::Result<()> {
     let mut one = [0u8; Buffer::SIZE + 1];
     let mut two = [0u8; Buffer::SIZE + 1];
     let mut out = [0u8; Buffer::SIZE];
-    let Input::Read(m) = read_argument(&rt, 1, &mut one) else {
+    let Some(m) = read_argument(&rt, 1, &mut one) else {
         return failed(&rt);
     };
-    let Input::Read(n) = read_argument(&rt, 2, &mut two) else {
+    let Some(n) = read_argument(&rt, 2, &mut two) else {
         return failed(&rt);
     };
     let end = program(&one[..m], &two[..n], &mut out);

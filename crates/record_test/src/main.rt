@@ -3,7 +3,7 @@
 
 #![tactic(auto)]
 
-use record::{Buffer, Outcome, Read, Record, Written};
+use record::{Buffer, Record};
 use std::io;
 
 fn main(rt: HostRuntime) -> io::Result<()> {
@@ -16,182 +16,140 @@ fn main(rt: HostRuntime) -> io::Result<()> {
 }
 
 fn sound_logs(rt: &impl Print) -> io::Result<()> {
-    log(rt, b"empty", b"")?;
-    log(rt, b"one record of zeros", b"\0\0\0\0\0\0\0\0")?;
-    log(
-        rt,
-        b"the last place, the brake",
-        b"\x1f\xbf\x02\0\x1f\x09\0\0",
-    )?;
-    log(rt, b"by carrier", b"\0\0\0\0\0\x01\0\0\0\0\0\0\x01\x02\0\0")?;
-    log(rt, b"by step", b"\0\0\0\0\x05\x01\0\0\x01\0\0\0\0\x02\0\0")
+    let logs: [(&str, &[u8]); 5] = [
+        ("empty", b""),
+        ("one record of zeros", b"\0\0\0\0\0\0\0\0"),
+        ("the last place, the brake", b"\x1f\xbf\x02\0\x1f\x09\0\0"),
+        ("by carrier", b"\0\0\0\0\0\x01\0\0\0\0\0\0\x01\x02\0\0"),
+        ("by step", b"\0\0\0\0\x05\x01\0\0\x01\0\0\0\0\x02\0\0"),
+    ];
+    for (name, bytes) in logs {
+        log(rt, name, bytes)?;
+    }
+    Ok(())
 }
 
 fn damaged_logs(rt: &impl Print) -> io::Result<()> {
-    log(rt, b"seven bytes", b"\0\0\0\0\0\0\0")?;
-    log(rt, b"a record and a half", b"\0\0\0\0\0\0\0\0\x01\0\0\0")?;
-    log(rt, b"seventh byte", b"\0\0\0\0\0\0\x01\0")?;
-    log(rt, b"eighth byte", b"\0\0\0\0\0\0\0\x01")?;
-    log(rt, b"carrier 32", b"\0\0\0\0\x20\0\0\0")?;
-    log(rt, b"lever 10", b"\0\0\0\0\0\x0a\0\0")?;
-    log(rt, b"step 180000", b"\x20\xbf\x02\0\0\0\0\0")?;
-    log(
-        rt,
-        b"one place twice",
-        b"\0\0\0\0\0\x01\0\0\0\0\0\0\0\x02\0\0",
-    )?;
-    log(
-        rt,
-        b"step descends",
-        b"\x01\0\0\0\0\x01\0\0\0\0\0\0\x05\x02\0\0",
-    )?;
-    log(
-        rt,
-        b"carrier descends",
-        b"\0\0\0\0\x01\x01\0\0\0\0\0\0\0\x02\0\0",
-    )
-}
-
-// 2,048 records and one more, each for carrier 0 of a step of its own.
-fn full_logs(rt: &impl Print) -> io::Result<()> {
-    let mut bytes = ascending();
-    front(rt, b"2048 records", &bytes, 2_048)?;
-    front(rt, b"2049 records", &bytes, 2_049)?;
-    bytes[16_376] = 0;
-    front(rt, b"2048 records, the last out of order", &bytes, 2_048)
-}
-
-fn ascending() -> [u8; 16_392] {
-    let mut bytes = [0u8; 16_392];
-    let mut i = 0;
-    while i < 2_049 {
-        bytes[8 * i] = (i % 256) as u8;
-        bytes[8 * i + 1] = (i / 256 % 256) as u8;
-        i += 1;
-    }
-    bytes
-}
-
-fn front(rt: &impl Print, name: &[u8], bytes: &[u8], records: usize) -> io::Result<()> {
-    if records <= bytes.len() / Record::SIZE {
-        log(rt, name, &bytes[..Record::SIZE * records])?;
+    let logs: [(&str, &[u8]); 10] = [
+        ("seven bytes", b"\0\0\0\0\0\0\0"),
+        ("a record and a half", b"\0\0\0\0\0\0\0\0\x01\0\0\0"),
+        ("seventh byte", b"\0\0\0\0\0\0\x01\0"),
+        ("eighth byte", b"\0\0\0\0\0\0\0\x01"),
+        ("carrier 32", b"\0\0\0\0\x20\0\0\0"),
+        ("lever 10", b"\0\0\0\0\0\x0a\0\0"),
+        ("step 180000", b"\x20\xbf\x02\0\0\0\0\0"),
+        ("one place twice", b"\0\0\0\0\0\x01\0\0\0\0\0\0\0\x02\0\0"),
+        ("step descends", b"\x01\0\0\0\0\x01\0\0\0\0\0\0\x05\x02\0\0"),
+        (
+            "carrier descends",
+            b"\0\0\0\0\x01\x01\0\0\0\0\0\0\0\x02\0\0",
+        ),
+    ];
+    for (name, bytes) in logs {
+        log(rt, name, bytes)?;
     }
     Ok(())
+}
+
+const FULL: usize = Buffer::SIZE;
+
+const ONE_MORE: usize = FULL + Record::SIZE;
+
+// 2,048 records and one more.
+fn full_logs(rt: &impl Print) -> io::Result<()> {
+    let mut bytes = ascending();
+    let (full, _) = bytes.split_at(FULL);
+    log(rt, "2048 records", full)?;
+    log(rt, "2049 records", &bytes)?;
+    bytes[FULL - Record::SIZE] = 0;
+    let (full, _) = bytes.split_at(FULL);
+    log(rt, "2048 records, the last out of order", full)
+}
+
+// Each for carrier 0 of a step of its own.
+fn ascending() -> [u8; ONE_MORE] {
+    let mut bytes = [0u8; ONE_MORE];
+    for step in 0..2_049u16 {
+        let at = Record::SIZE * usize::from(step);
+        bytes[at..at + 2].copy_from_slice(&step.to_le_bytes());
+    }
+    bytes
 }
 
 // The records of each step of a log: (0, 0, 1), (0, 3, 2), (2, 1, 9).
 fn parts(rt: &impl Print) -> io::Result<()> {
     let three = b"\0\0\0\0\0\x01\0\0\0\0\0\0\x03\x02\0\0\x02\0\0\0\x01\x09\0\0";
-    part(rt, b"step 0", three, 0)?;
-    part(rt, b"step 1", three, 1)?;
-    part(rt, b"step 2", three, 2)?;
-    part(rt, b"step 3", three, 3)?;
-    part(rt, b"step 4294967295", three, 4_294_967_295)?;
-    part(rt, b"step 0 of an unsound log", b"\0\0\0\0\0\x0a\0\0", 0)
+    for step in [0, 1, 2, 3, u32::MAX] {
+        print!(rt; "part, step {step}:")?;
+        hex(rt, record::step_records(three, step))?;
+    }
+    print!(rt; "part, step 0 of an unsound log:")?;
+    hex(rt, record::step_records(b"\0\0\0\0\0\x0a\0\0", 0))
 }
 
 fn records_read(rt: &impl Print) -> io::Result<()> {
-    read(rt, b"nothing", b"")?;
-    read(rt, b"nine bytes", b"\0\0\0\0\0\0\0\0\0")?;
-    read(rt, b"example L", b"\x02\x01\0\0\x03\x09\0\0")?;
-    read(
-        rt,
-        b"a damaged tail, carrier 32, lever 10",
-        b"\0\0\0\0\x20\x0a\x01\0",
-    )?;
-    read(
-        rt,
-        b"carrier 32, lever 10, step 180000",
-        b"\x20\xbf\x02\0\x20\x0a\0\0",
-    )?;
-    read(rt, b"lever 10, step 180000", b"\x20\xbf\x02\0\x1f\x0a\0\0")?;
-    read(rt, b"step 180000", b"\x20\xbf\x02\0\x1f\x09\0\0")
+    let records: [(&str, &[u8]); 7] = [
+        ("nothing", b""),
+        ("nine bytes", b"\0\0\0\0\0\0\0\0\0"),
+        ("example L", b"\x02\x01\0\0\x03\x09\0\0"),
+        (
+            "a damaged tail, carrier 32, lever 10",
+            b"\0\0\0\0\x20\x0a\x01\0",
+        ),
+        (
+            "carrier 32, lever 10, step 180000",
+            b"\x20\xbf\x02\0\x20\x0a\0\0",
+        ),
+        ("lever 10, step 180000", b"\x20\xbf\x02\0\x1f\x0a\0\0"),
+        ("step 180000", b"\x20\xbf\x02\0\x1f\x09\0\0"),
+    ];
+    for (name, bytes) in records {
+        print!(rt; "read, {name}:")?;
+        match record::read_record(bytes) {
+            Ok(
+                Record {
+                    step,
+                    carrier,
+                    lever,
+                },
+            ) => println!(rt; " {step} {carrier} {lever}")?,
+            Err(why) => println!(rt; " refused {why}")?,
+        }
+    }
+    Ok(())
 }
 
 fn records_written(rt: &impl Print) -> io::Result<()> {
-    written(rt, b"example L", record::write_record(258, 3, 9))?;
-    written(
-        rt,
-        b"carrier 32, lever 10, step 180000",
-        record::write_record(180_000, 32, 10),
-    )?;
-    written(
-        rt,
-        b"lever 10, step 180000",
-        record::write_record(180_000, 31, 10),
-    )?;
-    written(rt, b"step 180000", record::write_record(180_000, 31, 9))?;
-    written(
-        rt,
-        b"the last place, the brake",
-        record::write_record(179_999, 31, 9),
-    )?;
-    written(rt, b"lever 265", record::write_record(0, 0, 265))
+    let records = [
+        ("example L", 258, 3, 9),
+        ("carrier 32, lever 10, step 180000", 180_000, 32, 10),
+        ("lever 10, step 180000", 180_000, 31, 10),
+        ("step 180000", 180_000, 31, 9),
+        ("the last place, the brake", 179_999, 31, 9),
+        ("lever 265", 0, 0, 265),
+    ];
+    for (name, step, carrier, lever) in records {
+        print!(rt; "written, {name}:")?;
+        match record::write_record(step, carrier, lever) {
+            Ok(bytes) => hex(rt, &bytes)?,
+            Err(why) => println!(rt; " refused {why}")?,
+        }
+    }
+    Ok(())
 }
 
-fn log(rt: &impl Print, name: &[u8], bytes: &[u8]) -> io::Result<()> {
-    label(rt, b"log, ", name)?;
-    if record::log_sound(bytes) {
-        rt.write_all(b" sound\n")
+fn log(rt: &impl Print, name: &str, bytes: &[u8]) -> io::Result<()> {
+    let sound = if record::log_sound(bytes) {
+        "sound"
     } else {
-        rt.write_all(b" unsound\n")
-    }
-}
-
-fn part(rt: &impl Print, name: &[u8], bytes: &[u8], step: u32) -> io::Result<()> {
-    label(rt, b"part, ", name)?;
-    hex(rt, record::step_records(bytes, step))
-}
-
-fn read(rt: &impl Print, name: &[u8], bytes: &[u8]) -> io::Result<()> {
-    label(rt, b"read, ", name)?;
-    let answer = record::read_record(bytes);
-    match answer {
-        Read::Record(r) => show(rt, r),
-        Read::Refused(number) => refused(rt, number),
-    }
-}
-
-fn written(rt: &impl Print, name: &[u8], w: Written) -> io::Result<()> {
-    label(rt, b"written, ", name)?;
-    let outcome = w.outcome;
-    let bytes = w.bytes;
-    match outcome {
-        Outcome::Done => hex(rt, &bytes),
-        Outcome::Refused(number) => refused(rt, number),
-    }
-}
-
-fn label(rt: &impl Print, kind: &[u8], name: &[u8]) -> io::Result<()> {
-    rt.write_all(kind)?;
-    rt.write_all(name)?;
-    rt.write_all(b":")
-}
-
-fn show(rt: &impl Print, r: Record) -> io::Result<()> {
-    number(rt, r.step as u64)?;
-    number(rt, r.carrier as u64)?;
-    number(rt, r.lever as u64)?;
-    rt.write_all(b"\n")
-}
-
-fn number(rt: &impl Print, n: u64) -> io::Result<()> {
-    print!(rt; " {n}")
-}
-
-fn refused(rt: &impl Print, number: u8) -> io::Result<()> {
-    println!(rt; " refused {number}")
+        "unsound"
+    };
+    println!(rt; "log, {name}: {sound}")
 }
 
 fn hex(rt: &impl Print, bytes: &[u8]) -> io::Result<()> {
-    let mut i = 0;
-    while i < bytes.len() {
-        two_digits(rt, bytes[i])?;
-        i += 1;
+    for byte in bytes {
+        print!(rt; " {byte:02x}")?;
     }
-    rt.write_all(b"\n")
-}
-
-fn two_digits(rt: &impl Print, byte: u8) -> io::Result<()> {
-    print!(rt; " {byte:02x}")
+    println!(rt;)
 }

@@ -1,5 +1,4 @@
 -- Laws of the program's answer.
 pub mod Past
 pub mod Decimals
-pub mod Words
 pub mod Statements

@@ -26,9 +26,10 @@ use Rattle.fleet.specs.Step.{step_one, step_to, step_all}
 use Rattle.record.specs.Buffer.{lever_at}
 use Rattle.fleet.specs.Examples.{practice}
 use Rattle.rerun.specs.Ascii.{ascii}
-use Rattle.rerun.specs.Rerun.{End, steps_past, program_order}
+use Rattle.rerun.specs.Rerun.{steps_past, program_order}
+use Rattle.rerun.specs.declared.ended.Ended.{Ended}
 use Rattle.rerun.specs.Statements.{Program, Examples}
-use Rattle.rerun.specs.Text.{decimal_to, word_text, words_text, lines_of}
+use Rattle.rerun.specs.Text.{decimal_to, word_text, lines_of, line_of}
 use Rattle.rerun.proofs.Past.{too_long, unsound, reruns, replays, sound_within}
 
 long : (input : List ℕ) → buffer_size < length input → answer (program_order input) ≡ refused LOG
@@ -51,7 +52,7 @@ enough input = go (leb (length input) buffer_size) refl
         length-take-le (buffer_size + 1) input more in
         long (take (buffer_size + 1) input) (omega (arith, same)) ∙ sym (too_long input more)
 
-number : {n : ℕ} → ◌≡◌ {A = Answer End} (refused n) (refused LOG) → n ≡ LOG
+number : {n : ℕ} → ◌≡◌ {A = Answer Ended} (refused n) (refused LOG) → n ≡ LOG
 number e = cc
 
 only : (input : List ℕ) (n : ℕ) → answer (program_order input) ≡ refused n → n ≡ LOG
@@ -61,7 +62,7 @@ only input n q = go (sound_log practice.yard.b input) refl
     go false e = number (sym q ∙ unsound input e)
     go true e = apart (sym q ∙ reruns input e)
 
-steps : (input : List ℕ) (end : End) → answer (program_order input) ≡ accepted end
+steps : (input : List ℕ) (end : Ended) → answer (program_order input) ≡ accepted end
     → end.steps ≤ most_steps
 unfolding program_order
 steps input end q =
@@ -82,8 +83,8 @@ program =
     }
 
 pub examples : Examples
-unfolding program_order answer sound_log read_order limits_order well_formed record_of precedes steps_past
-    run step_all step_to step_one carrier words_of put free_for start_to lever_at size_of
-    step new_speed push_of cut_speed brake slide distance walk clear_on toward free no_wall covers share
-    wall every decimal_to word_text words_text lines_of ascii
+unfolding program_order answer sound_log read_order limits_order well_formed record_of precedes
+    steps_past run step_all step_to step_one carrier words_of put free_for start_to lever_at
+    size_of step new_speed push_of cut_speed brake slide distance walk clear_on toward free
+    no_wall covers share wall every decimal_to word_text lines_of line_of ascii
 examples = record { brake = refl; empty = refl; refused = refl }

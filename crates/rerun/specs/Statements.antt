@@ -1,5 +1,6 @@
 -- What is claimed of the program. proofs/Statements.antt proves each record whole.
-use Rattle.std.specs.Prelude.{ℕ, ◌+◌, ◌<◌, ◌≤◌, ◌≡◌, true, false, List, [], ◌∷◌, ◌++◌, ℤ, length, take}
+use Rattle.std.specs.Prelude.{ℕ, ◌+◌, ◌<◌, ◌≤◌, ◌≡◌, true, false, List, [], ◌∷◌, ◌++◌, ℤ}
+use Rattle.std.specs.Prelude.{length, take}
 use Rattle.basis.specs.Numbers.{LOG, most_steps}
 use Rattle.basis.specs.Order.{refused, accepted, answer}
 use Rattle.record.specs.Buffer.{buffer_size}
@@ -8,7 +9,8 @@ use Rattle.session.specs.Calls.{replay_order}
 use Rattle.fleet.specs.State.{state_words}
 use Rattle.fleet.specs.Examples.{practice, two_records}
 use Rattle.rerun.specs.Ascii.{line}
-use Rattle.rerun.specs.Rerun.{End, steps_past, end_of, program_order}
+use Rattle.rerun.specs.Rerun.{steps_past, end_of, program_order}
+use Rattle.rerun.specs.declared.ended.Ended.{Ended}
 use Rattle.rerun.specs.Text.{program_text}
 
 -- 'The program', of every input.
@@ -34,7 +36,7 @@ pub record Program : Type 0 where
       practice.cells practice.boxes state input)
       ≡ accepted (end_of (records_of input)).state
   -- It never asks for more steps than a session makes.
-  pub steps : (input : List ℕ) (end : End) → answer (program_order input) ≡ accepted end
+  pub steps : (input : List ℕ) (end : Ended) → answer (program_order input) ≡ accepted end
       → end.steps ≤ most_steps
 
 -- 'Program, .. output whole'.

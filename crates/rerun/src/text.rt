@@ -1,105 +1,86 @@
-// The lines that the program writes, as bytes (document 01, 'The program').
+// The lines that the program writes (document 01, 'The program'), in a text of a fixed room.
 
-ghost use Rattle.std.specs.Prelude.{◌≡◌, ◌++◌, ◌+◌, ◌≤◌, length, take};
-ghost use Rattle.fleet.specs.State.{carrier_words};
-ghost use Rattle.rerun.specs.Text.{
-  decimal,
-  lines_of,
-  state_room,
-  text_room,
-  word_room,
-  word_text,
-  words_text,
-};
+ghost use Rattle.std.specs.Prelude.{◌≡◌, ◌++◌, ◌+◌, ◌≤◌};
+ghost use Rattle.arrayvec.specs.ArrayString.{array_string_len};
+ghost use Rattle.basis.specs.Refusal.{answer_of, number_of};
+ghost use Rattle.rerun.specs.Text.{decimal, line_of, lines_of, program_text, word_text};
 
 use super::ended::Ended;
+use arrayvec::ArrayString;
+use basis::Refusal;
 use fleet::State;
-use session::Replayed;
-use yard::magnitude;
+use itoa::Buffer;
 
 #[derive(Drop)]
-pub struct Text {}
+struct Room {}
 
-impl Text {
-    // Enough for the lines of any state: 22 bytes a word, and 50 for all else.
-    pub const SIZE: usize = 50 + 22 * State::WORDS;
+impl Room {
+    // Of a u32 at most.
+    const NUMBER: usize = 10;
+    // A space, a sign and a u32.
+    const WORD: usize = 12;
+    // Enough for the lines of any state, or for a refusal.
+    const TEXT: usize = 9 + Room::NUMBER + Room::WORD * State::WORDS;
 }
 
-// Puts bytes into the text from a place on, and answers where they end.
-fn put(text: &mut [u8], at: usize, bytes: &[u8]) -> usize
-    requires room { at + length bytes.now ≤ length text.old }
-    ensures put { (result ≡ at + length bytes.now)
-        × (take result text.new ≡ take at text.old ++ bytes.now) }
-{
-    let mut i = 0;
-    while i < bytes.len() {
-        text[at + i] = bytes[i];
-        i += 1;
-    }
-    at + i
-}
+// Every push to it has its room proved, so none of them fails. By `write!` the text would be proved
+// only of writes that don't fail, and a `fmt` that gave up would pass.
+pub type Text = ArrayString<{ Room::TEXT }>;
 
-fn put_number(text: &mut [u8], at: usize, n: u64) -> usize
-    requires room { at + 20 ≤ length text.old }
-    ensures put { (result ≤ at + 20)
-        × (take result text.new ≡ take at text.old ++ decimal n) }
+// A number in decimal.
+#[tactic(auto, using(crate::proofs::Decimals::same))]
+fn push_number(text: &mut Text, n: u32)
+    requires room { array_string_len text.old + Room.NUMBER ≤ Room.TEXT }
+    ensures pushed { text.new.bytes ≡ text.old.bytes ++ decimal n }
+    ensures len { array_string_len text.new ≤ array_string_len text.old + Room.NUMBER }
 {
-    let mut digits = [0u8; 20];
-    let k = io::decimal(n, &mut digits);
-    put(text, at, &digits[..k])
+    text.push_str(Buffer::new().format(n));
 }
 
 // A space, then the word with its sign.
-fn put_word(text: &mut [u8], at: usize, z: i32) -> usize
-    requires room { at + word_room ≤ length text.old }
-    ensures put { (result ≤ at + word_room)
-        × (take result text.new ≡ take at text.old ++ word_text z) }
+fn push_word(text: &mut Text, z: i32)
+    requires room { array_string_len text.old + Room.WORD ≤ Room.TEXT }
+    ensures pushed { text.new.bytes ≡ text.old.bytes ++ word_text z }
+    ensures len { array_string_len text.new ≤ array_string_len text.old + Room.WORD }
 {
-    let size = magnitude(z) as u64;
-    if z < 0 {
-        let next = put(text, at, b" -");
-        return put_number(text, next, size);
-    }
-    let next = put(text, at, b" ");
-    put_number(text, next, size)
+    text.push(' ');
+    text.push_str(Buffer::new().format(z));
 }
 
-// The words of the state.
-#[tactic(auto, unfolding(crate::specs::Text::words_text))]
-fn put_state(text: &mut [u8], at: usize, state: [i32; State::WORDS]) -> usize
-    requires room { (length state ≡ carrier_words) × (at + state_room ≤ length text.old) }
-    ensures put { (result ≤ at + state_room)
-        × (take result text.new ≡ words_text (take at text.old) state) }
-{
-    let x = put_word(text, at, state[0]);
-    let y = put_word(text, x, state[1]);
-    let u = put_word(text, y, state[2]);
-    let v = put_word(text, u, state[3]);
-    put_word(text, v, state[4])
-}
-
-// The lines, at the front of the text, and how long they are.
+// 'steps N', then a line for carrier 0.
 #[tactic(auto, unfolding(crate::specs::Text::lines_of, crate::specs::Ascii::ascii))]
-pub fn lines(ended: Ended, text: &mut [u8]) -> usize
-    requires room { (length ended.state ≡ carrier_words) × (text_room ≤ length text.old) }
-    ensures lines { (result ≤ text_room)
-        × (take result text.new ≡ lines_of ended.answer ended.steps ended.state) }
+fn lines(ended: Ended) -> Text
+    ensures lines { result.bytes ≡ lines_of ended }
 {
-    let answer = ended.answer;
-    let steps = ended.steps;
-    let state = ended.state;
-    match answer {
-        Replayed::Done => {
-            let word = put(text, 0, b"steps ");
-            let number = put_number(text, word, steps as u64);
-            let carrier = put(text, number, b"\n0");
-            let words = put_state(text, carrier, state);
-            put(text, words, b"\n")
-        }
-        Replayed::Refused(number) => {
-            let word = put(text, 0, b"refused ");
-            let end = put_number(text, word, number as u64);
-            put(text, end, b"\n")
-        }
+    let mut text = Text::new();
+    text.push_str("steps ");
+    push_number(&mut text, ended.steps);
+    text.push_str("\n0");
+    for z in ended.state {
+        push_word(&mut text, z);
+    }
+    text.push('\n');
+    text
+}
+
+// The one line 'refused N'.
+#[tactic(auto, unfolding(crate::specs::Text::line_of, crate::specs::Ascii::ascii))]
+fn line(why: Refusal) -> Text
+    ensures line { result.bytes ≡ line_of (number_of why) }
+{
+    let mut text = Text::new();
+    text.push_str("refused ");
+    push_number(&mut text, u32::from(why));
+    text.push('\n');
+    text
+}
+
+// What is written of what a log comes to.
+pub fn text_of(outcome: Result<Ended, Refusal>) -> Text
+    ensures text { result.bytes ≡ program_text (answer_of outcome) }
+{
+    match outcome {
+        Ok(ended) => lines(ended),
+        Err(why) => line(why),
     }
 }

@@ -16,7 +16,7 @@ use lib.Ieee.{fits, round, sum, add, eq, to_bits, of_bits}
 use lib.Ieee.Bits.{of_bits-to_bits}
 use lib.Ieee.Exact.{HasValue, round_exact}
 use lib.Ieee.Fits.{and_l, and_r, up_pos, down_pos, round-fits}
-use lib.Ieee.Scale.{finite}
+use Rattle.std.specs.Float.{float_is_finite}
 use lib.Ieee.Nearest.{div_same}
 use Rattle.basis.proofs.Tests.{never}
 use Rattle.rope.specs.Forces.{plus_zero, minus_zero}
@@ -95,8 +95,8 @@ rounded f s m e h =
     (round-fits f s (m * up e) (down e)) h (value f s m e h) (refl, refl)
 
 -- What is equal bit for bit is equal in IEEE 754, unless it is a NaN.
-eq_itself : (x : Float) → finite x ≡ true → eq x x ≡ true
-unfolding eq
+eq_itself : (x : Float) → float_is_finite x ≡ true → eq x x ≡ true
+unfolding eq float_is_finite
 eq_itself nan h = never h refl
 eq_itself (inf s) h = never h refl
 eq_itself (fin s m e) h = simp (eq-eqb (m * up e * down e) (m * up e * down e) refl, same s)
@@ -123,9 +123,9 @@ no_size f e h =
 
 -- A finite number is -0.0, or 0.0 added to it leaves it as it is.
 module _ (f : Format) where
-  plus_zero_is : (x : Float) → T (fits f x) → finite x ≡ true
+  plus_zero_is : (x : Float) → T (fits f x) → float_is_finite x ≡ true
       → (x ≡ minus_zero) ⊎ (add f x plus_zero ≡ x)
-  unfolding sum
+  unfolding sum float_is_finite
   plus_zero_is nan h n = never n refl
   plus_zero_is (inf s) h n = never n refl
   plus_zero_is (fin false m e) h n =
@@ -148,7 +148,7 @@ zeros : eq (add binary64 minus_zero plus_zero) minus_zero ≡ true
 unfolding add eq
 zeros = refl
 
-module _ (x : Float) (held : fits binary64 x ≡ true) (number : finite x ≡ true) where
+module _ (x : Float) (held : fits binary64 x ≡ true) (number : float_is_finite x ≡ true) where
   is : (x ≡ minus_zero) ⊎ (add binary64 x plus_zero ≡ x)
   is = plus_zero_is binary64 x (subst T (sym held) tt) number
 

@@ -10,7 +10,7 @@ use lib.Dec.{leb}
 use lib.ListN.{take}
 use borrow.Author.Tests.{lt-leb, leb-false}
 use lib.Ieee.{Float, nan, inf, fin}
-use lib.Ieee.Scale.{finite}
+use Rattle.std.specs.Float.{float_is_finite}
 use Rattle.basis.specs.Numbers.{ROPE}
 use Rattle.basis.specs.Order.{refused, accepted, Order, check, give, answer}
 use Rattle.basis.proofs.Order.{passes, fails, gives, apart}
@@ -28,11 +28,16 @@ pub both_fail : {P Q : Type 0} (s t : Bool) → (s ≡ false) ↔ P → (t ≡ f
 both_fail true t p q = (λ e. inr (q.0 e), ⊎_elim (λ h. never refl (p.1 h)) q.1)
 both_fail false t p q = (λ e. inl (p.0 refl), λ h. refl)
 
-pub not_finite : (x : Float) → (finite x ≡ false) ↔ NotFinite x
+pub not_finite : (x : Float) → (float_is_finite x ≡ false) ↔ NotFinite x
+unfolding float_is_finite
 not_finite nan = (λ e. inl refl, λ h. refl)
 not_finite (inf false) = (λ e. inr (inl refl), λ h. refl)
 not_finite (inf true) = (λ e. inr (inr refl), λ h. refl)
-not_finite (fin s m e) = (never refl, ⊎_elim (ap finite) (⊎_elim (ap finite) (ap finite)))
+not_finite (fin s m e) = (
+  never refl,
+  ⊎_elim (ap float_is_finite)
+      (⊎_elim (ap float_is_finite) (ap float_is_finite)),
+)
 
 pub point_not_finite : (point : Point) → (finite_point point ≡ false) ↔ PointNotFinite point
 unfolding finite_point

@@ -10,46 +10,45 @@ use lib.IntN.{pos, negsuc}
 use lib.Ieee.{Float, fin, binary64, round, of_bits, to_bits, add, sub, mul}
 use lib.Ieee.{neg, fits}
 use lib.Ieee.Bits.{is_true, of_bits-fits}
-use lib.Ieee.Scale.{finite}
+use Rattle.std.specs.Float.{float_is_finite}
+use Rattle.std.specs.Prelude.{Result, Ok, Err}
 use Rattle.basis.specs.Order.{Answer, accepted, answer}
+use Rattle.basis.specs.Refusal.{answer_of}
+use Rattle.basis.specs.declared.Refusal.{Refusal}
+use Rattle.basis.specs.declared.Refusal.TheVariants as why
 use Rattle.basis.proofs.Order.{one_outcome, apart, held, given}
+use Rattle.basis.proofs.Refusals.{one_answer}
 use Rattle.basis.proofs.Tests.{and_right}
 use Rattle.rope.specs.declared.Point.{Point}
 use Rattle.rope.specs.declared.Force.{Force}
-use Rattle.rope.specs.declared.Stepped.{Stepped}
-use Rattle.rope.specs.declared.Stepped.TheVariants.{Moved, Refused}
 use Rattle.rope.specs.Forces.{plus_zero, force_on, sum_from, finite_force, finite_forces}
 use Rattle.rope.specs.Step.{over, speed_by, moved_by, finite_point, moved_under, rope_order}
-use Rattle.rope.specs.Step.{answer_of}
 use Rattle.rope.specs.Facts.{Rule18}
-use Rattle.rope.specs.Says.{StepSays}
+use Rattle.rope.specs.Says.{Counted}
 use Rattle.rope.specs.Statements.{Determined, StepNumbers, NoForces, RopeEnds}
 use Rattle.rope.specs.Statements.{point_at, Examples}
 use Rattle.rope.proofs.Own.{kept, keeps_value, from_minus_zero}
 use Rattle.rope.proofs.Steps.{same_counted}
 use Rattle.rope.proofs.Rule18.{refused_when, settled}
 
--- No two answers stand for the same point or number.
-same_answer : (a b : Stepped) → answer_of a ≡ answer_of b → a ≡ b
-same_answer (Moved p) (Moved q) e = cc
-same_answer (Moved p) (Refused n) e = apart (sym e)
-same_answer (Refused n) (Moved p) e = apart e
-same_answer (Refused n) (Refused m) e = cc
-
 pub determined : Determined
-determined = record { step = λ point forces count. one_outcome same_answer }
+determined =
+    record {
+      step = λ point forces. one_outcome one_answer;
+      counted = λ point forces count. one_outcome one_answer;
+    }
 
-module _ (point : Point) (forces : List Force) (count : ℕ) (out : Stepped)
-    (says : StepSays point forces count out) where
+module _ (point : Point) (forces : List Force) (count : ℕ) (out : Result Point Refusal)
+    (says : Counted point forces count out) where
   -- An outcome is given where the order comes to what it stands for.
-  is_given : (a : Stepped) → (out ≡ a) ↔ (answer (rope_order point forces count) ≡ answer_of a)
-  is_given a = (λ e. sym says ∙ ap answer_of e, λ e. same_answer out a (says ∙ e))
+  is_given : (a : Result Point Refusal) → (out ≡ a) ↔ (answer (rope_order point forces count) ≡ answer_of a)
+  is_given a = (λ e. sym says ∙ ap answer_of e, λ e. one_answer out a (says ∙ e))
 
   pub numbers : StepNumbers point forces count out
   numbers =
       record {
-        rope = Iff.trans (is_given (Refused 18)) (refused_when point forces count);
-        moved = Iff.trans (is_given (Moved (moved_under point (take count forces)))) else;
+        rope = Iff.trans (is_given (Err why.Rope)) (refused_when point forces count);
+        moved = Iff.trans (is_given (Ok (moved_under point (take count forces)))) else;
       }
     where
       else : (answer (rope_order point forces count)
@@ -68,17 +67,17 @@ unfolding mul round
 no_push = refl
 
 module _ (point : Point) (forces : List Force) (next : Point)
-    (says : StepSays point forces 0 (Moved next)) (fits-it : fits binary64 point.speed ≡ true)
+    (says : Counted point forces 0 (Ok next)) (fits-it : fits binary64 point.speed ≡ true)
   where
     -- What the acceptance says of the point, and of the point that is given.
-    told : (finite point.speed ≡ true) × (next.speed ≡ add binary64 point.speed plus_zero)
+    told : (float_is_finite point.speed ≡ true) × (next.speed ≡ add binary64 point.speed plus_zero)
     unfolding rope_order finite_point moved_by speed_by sum_from
     told =
         let (few, after-count) = held _ _ _ (sym says) in
         let (holds, after-point) = held _ _ _ after-count in
         let (forces_hold, after-forces) = held _ _ _ after-point in
         let (result-holds, end) = held _ _ _ after-forces in (
-          and_right (finite point.place) (finite point.speed) holds,
+          and_right (float_is_finite point.place) (float_is_finite point.speed) holds,
           ap (λ (p : Point). p.speed) (sym (given _ end))
               ∙ ap (add binary64 point.speed) no_push,
         )
@@ -135,7 +134,7 @@ is_drag_speed = refl
 
 pub examples : Examples
 unfolding rope_order finite_point moved_by speed_by sum_from force_on finite_force finite_forces answer
-    round of_bits to_bits add sub mul neg
+    float_is_finite round of_bits to_bits add sub mul neg
 examples =
     record {
       pull = renamed is_tick is_one ∙ refl;

@@ -1,9 +1,8 @@
 -- Document 02, §8: the forces on a point, and their sum. The operations are those of IEEE 754
 -- binary64 (lib.Ieee): each result is rounded to the nearest f64, and a zero keeps its sign.
 use Rattle.std.specs.Prelude.{Bool, true, false, ◌&&◌, List, [], ◌∷◌, pos, Float}
-use Rattle.std.specs.Float.{fin, binary64}
+use Rattle.std.specs.Float.{fin, binary64, float_is_finite}
 use Rattle.std.specs.Float.Ieee.{add, sub, mul, neg}
-use Rattle.std.specs.Float.Ieee.Scale.{finite}
 use Rattle.rope.specs.declared.Point.{Point}
 use Rattle.rope.specs.declared.Force.{Force}
 use Rattle.rope.specs.declared.Force.TheVariants.{Pull, Spring, Drag}
@@ -35,9 +34,9 @@ sum_of point forces = sum_from point plus_zero forces
 
 -- A force's numbers are finite.
 unfoldable pub finite_force : Force → Bool
-finite_force (Pull size) = finite size
-finite_force (Spring stiffness rest) = finite stiffness && finite rest
-finite_force (Drag factor) = finite factor
+finite_force (Pull size) = float_is_finite size
+finite_force (Spring stiffness rest) = float_is_finite stiffness && float_is_finite rest
+finite_force (Drag factor) = float_is_finite factor
 
 -- So are those of all of these forces.
 unfoldable pub finite_forces : List Force → Bool

@@ -1,6 +1,6 @@
 -- Rope ends on the screen (document 02, §8). Read in this order:
 --   Forces      what a force does to a point, the sum of forces, forces whose numbers are finite
---   Step        the move, the order of refusals, and the answer
+--   Step        the move, and the order of refusals
 --   Facts       what refuses a step, in plain facts
 --   Says        the contract of `Point::step`, by name
 --   Statements  what is claimed of these, each with its proof of that type in

@@ -1,11 +1,16 @@
 -- The contract of the public entry, by name: what was given, and what came out.
-use Rattle.std.specs.Prelude.{ℕ, ◌≡◌, List}
+use Rattle.std.specs.Prelude.{ℕ, ◌≡◌, List, length, Result}
 use Rattle.basis.specs.Order.{answer}
+use Rattle.basis.specs.Refusal.{answer_of}
+use Rattle.basis.specs.declared.Refusal.{Refusal}
 use Rattle.rope.specs.declared.Point.{Point}
 use Rattle.rope.specs.declared.Force.{Force}
-use Rattle.rope.specs.declared.Stepped.{Stepped}
-use Rattle.rope.specs.Step.{rope_order, answer_of}
+use Rattle.rope.specs.Step.{rope_order}
 
--- `Point::step`
-abbrev pub StepSays : Point → List Force → ℕ → Stepped → Type 0
-StepSays point forces count out = answer_of out ≡ answer (rope_order point forces count)
+-- A step under the first `count` forces.
+abbrev pub Counted : Point → List Force → ℕ → Result Point Refusal → Type 0
+Counted point forces count out = answer_of out ≡ answer (rope_order point forces count)
+
+-- `Point::step`: each force counts.
+abbrev pub StepSays : Point → List Force → Result Point Refusal → Type 0
+StepSays point forces out = Counted point forces (length forces) out

@@ -1,14 +1,11 @@
 -- Document 02, §8: one step of a point, and what is refused.
 use Rattle.std.specs.Prelude.{ℕ, Bool, false, ◌&&◌, List, leb, take, Float}
-use Rattle.std.specs.Float.{binary64}
+use Rattle.std.specs.Float.{binary64, float_is_finite}
 use Rattle.std.specs.Float.Ieee.{round, add, mul}
-use Rattle.std.specs.Float.Ieee.Scale.{finite}
 use Rattle.basis.specs.Numbers.{ROPE}
-use Rattle.basis.specs.Order.{Answer, refused, accepted, Order, check, give}
+use Rattle.basis.specs.Order.{Order, check, give}
 use Rattle.rope.specs.declared.Point.{Point}
 use Rattle.rope.specs.declared.Force.{Force}
-use Rattle.rope.specs.declared.Stepped.{Stepped}
-use Rattle.rope.specs.declared.Stepped.TheVariants.{Moved, Refused}
 use Rattle.rope.specs.Forces.{sum_of, finite_forces}
 
 -- The f64 nearest to a / b.
@@ -29,7 +26,7 @@ moved_by point force =
 
 -- A point's numbers are finite.
 unfoldable pub finite_point : Point → Bool
-finite_point point = finite point.place && finite point.speed
+finite_point point = float_is_finite point.place && float_is_finite point.speed
 
 -- The point after 'the whole sum and move'.
 abbrev pub moved_under : Point → List Force → Point
@@ -48,8 +45,3 @@ rope_order point forces count =
     (check (finite_forces (take count forces)) ROPE
     (check (finite_point (moved_under point (take count forces))) ROPE
     (give (moved_under point (take count forces))))))
-
--- The point or the number that each case of the answer stands for.
-abbrev pub answer_of : Stepped → Answer Point
-answer_of (Moved point) = accepted point
-answer_of (Refused number) = refused number

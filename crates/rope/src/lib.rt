@@ -4,12 +4,11 @@
 #![tactic(auto)]
 
 ghost use Rattle.std.specs.Prelude.{◌≡◌};
-ghost use Rattle.std.specs.Float.Ieee.Scale.{finite};
 ghost use Rattle.rope.specs.Forces.{finite_force, force_on};
 ghost use Rattle.rope.specs.Step.{finite_point, moved_by};
 ghost use Rattle.rope.specs.Says.{StepSays};
 
-use basis::Number;
+use basis::Refusal;
 
 // 'points with place and speed', along one axis: one in the plane is two of them.
 #[derive(Clone, Copy)]
@@ -27,54 +26,32 @@ pub enum Force {
     Drag(f64),
 }
 
-// What one step of a point comes to.
-#[derive(Clone, Copy)]
-pub enum Stepped {
-    Moved(Point),
-    Refused(u8),
-}
-
-// Is it a number: no NaN and no infinity.
-fn is_finite(x: f64) -> bool
-    ensures finite { result ≡ finite x }
-{
-    let infinity = 1.0 / 0.0;
-    if x < infinity {
-        return -infinity < x;
-    }
-    false
-}
-
+// Each force is taken apart by `match`, as document 01 asks: it comes as data, also from C.
 impl Force {
     // 'up to eight forces'
     pub const MOST: usize = 8;
 
     // Is each of its numbers finite.
-    fn holds(self) -> bool
-        ensures holds { result ≡ finite_force self }
+    #[tactic(auto, unfolding(crate::specs::Forces::finite_force))]
+    fn is_finite(self) -> bool
+        ensures finite { result ≡ finite_force self }
     {
         match self {
-            Force::Pull(size) => is_finite(size),
-            Force::Spring(stiffness, rest) => {
-                if !is_finite(stiffness) {
-                    return false;
-                }
-                is_finite(rest)
-            }
-            Force::Drag(factor) => is_finite(factor),
+            Force::Pull(size) => size.is_finite(),
+            Force::Spring(stiffness, rest) => stiffness.is_finite() && rest.is_finite(),
+            Force::Drag(factor) => factor.is_finite(),
         }
     }
 
     // What it does to a point.
+    #[tactic(auto, unfolding(crate::specs::Forces::force_on))]
     fn on(self, point: Point) -> f64
         ensures force { result ≡ force_on point self }
     {
-        let place = point.place;
-        let speed = point.speed;
         match self {
             Force::Pull(size) => size,
-            Force::Spring(stiffness, rest) => stiffness * (rest - place),
-            Force::Drag(factor) => -(factor * speed),
+            Force::Spring(stiffness, rest) => stiffness * (rest - point.place),
+            Force::Drag(factor) => -(factor * point.speed),
         }
     }
 }
@@ -84,55 +61,45 @@ impl Point {
     const TICK: f64 = 0.02;
 
     // Are place and speed finite.
-    fn holds(self) -> bool
-        ensures holds { result ≡ finite_point self }
+    #[tactic(auto, unfolding(crate::specs::Step::finite_point))]
+    fn is_finite(self) -> bool
+        ensures finite { result ≡ finite_point self }
     {
-        let place = self.place;
-        let speed = self.speed;
-        if !is_finite(place) {
-            return false;
-        }
-        is_finite(speed)
+        self.place.is_finite() && self.speed.is_finite()
     }
 
     // Moved by a force: the speed first, then the place with the new speed.
+    #[tactic(auto, using(crate::proofs::Numbers::operations))]
     fn moved(self, force: f64) -> Point
         ensures moved { result ≡ moved_by self force }
     {
-        let place = self.place;
-        let old = self.speed;
-        let speed = old + force * Point::TICK;
+        let speed = self.speed + force * Point::TICK;
         Point {
-            place: place + speed * Point::TICK,
+            place: self.place + speed * Point::TICK,
             speed,
         }
     }
 
-    // One step under the first `count` forces, 'added in list order starting from 0.0'; what can't
-    // be used is refused as 18.
-    pub fn step(self, forces: [Force; 8], count: usize) -> Stepped
-        ensures stepped { StepSays self forces count result }
+    // One step under forces, 'added in list order starting from 0.0'; what can't be used is refused
+    // as 18.
+    #[tactic(auto, using(crate::proofs::Steps::ways))]
+    pub fn step(self, forces: &[Force]) -> Result<Point, Refusal>
+        ensures stepped { StepSays self forces.now result }
     {
-        if count > Force::MOST {
-            return Stepped::Refused(Number::ROPE);
-        }
-        if !self.holds() {
-            return Stepped::Refused(Number::ROPE);
+        if forces.len() > Force::MOST || !self.is_finite() {
+            return Err(Refusal::Rope);
         }
         let mut sum = 0.0;
-        let mut i = 0;
-        while i < count {
-            let force = forces[i];
-            if !force.holds() {
-                return Stepped::Refused(Number::ROPE);
+        for force in forces {
+            if !force.is_finite() {
+                return Err(Refusal::Rope);
             }
-            sum = sum + force.on(self);
-            i += 1;
+            sum += force.on(self);
         }
         let next = self.moved(sum);
-        if !next.holds() {
-            return Stepped::Refused(Number::ROPE);
+        if !next.is_finite() {
+            return Err(Refusal::Rope);
         }
-        Stepped::Moved(next)
+        Ok(next)
     }
 }

@@ -1,109 +1,54 @@
--- Rule 10's lengths: each way through the test, and what it says.
-use Prim.Native.Nat.{ℕ, ◌*◌, ◌-◌, ◌<◌, ◌≤◌, ◌^◌}
+-- What the ranges of a yard and rule 10's lengths say, as the facts that the calls' parts require.
+use Prim.Native.Nat.{◌*◌, ◌≤◌}
 use mathlib.Core.Path.{◌≡◌}
-use mathlib.Core.Bool.{true, false, ◌&&◌}
-use native.Mathlib.Nat.{mul-le-mul_left}
-use native.Mathlib.Omega.{arith}
-use borrow.Author.Tests.{eq-eqb, ne_eqb, eqb-true}
-use lib.Dec.{eqb}
-use lib.IntN.{pos}
-use lib.ListN.{length, replicate, length-replicate}
-use Rattle.basis.specs.Numbers.{row_count}
-use Rattle.basis.proofs.Tests.{and_left, and_right}
+use mathlib.Core.Bool.{true}
+use lib.ListN.{length}
 use Rattle.record.specs.Buffer.{buffer_size}
 use Rattle.yard.specs.declared.world.Yard.{Yard}
-use Rattle.yard.specs.Rule9.{ranges_hold}
-use Rattle.yard.proofs.Fits.{cells_fit, boxes_fit}
-use Rattle.fleet.specs.State.{carrier_words}
+use Rattle.yard.specs.Boxes.{BoxesFit}
+use Rattle.yard.specs.Rule9.{ranges_hold, sizes_hold}
+use Rattle.yard.proofs.Fits.{ranges, cells_fit, boxes_fit}
+use Rattle.fleet.specs.State.{world_of, carrier_words}
+use Rattle.fleet.specs.Fits.{WorldFits}
 use Rattle.session.specs.Lent.{Lent}
-use Rattle.session.specs.Sound.{world_room, room}
+use Rattle.session.specs.Sound.{room}
+use Rattle.session.proofs.Facts.{room_fits}
 
--- What the ranges say.
 module _ (yard : Yard) (e : ranges_hold yard ≡ true) where
   pub width_most : yard.w ≤ 64
-  width_most = (cells_fit yard e (replicate (yard.w * yard.h) 0) (length-replicate _ _)).w
+  width_most = ((ranges yard).0 e).w.1
 
   pub height_most : yard.h ≤ 64
-  height_most = (cells_fit yard e (replicate (yard.w * yard.h) 0) (length-replicate _ _)).h
+  height_most = ((ranges yard).0 e).h.1
 
   pub carriers_most : yard.b ≤ 32
-  carriers_most = (boxes_fit yard e (replicate (4 * yard.b) (pos 0)) (length-replicate _ _)).b
-
--- A product of two u32 is a usize.
-pub area_fits : (w h : ℕ) → w < 2 ^ 32 → h < 2 ^ 32 → w * h < 2 ^ 64
-area_fits w h a b =
-    let row : w * h ≤ w * (2 ^ 32 - 1) = mul-le-mul_left w (omega (arith, b)) in
-    omega (arith, row, a)
-
-module _ (yard : Yard) (cells boxes state : ℕ) where
-  pub cells_wrong : (cells ≡ yard.w * yard.h → ⊥) → world_room yard cells boxes state ≡ false
-  unfolding world_room
-  cells_wrong h = rw (ne_eqb _ _ h)
-
-  module _ (c : cells ≡ yard.w * yard.h) where
-    pub boxes_wrong : (boxes ≡ 4 * yard.b → ⊥) → world_room yard cells boxes state ≡ false
-    unfolding world_room
-    boxes_wrong h = rw (eq-eqb _ _ c, ne_eqb _ _ h)
-
-    pub state_decides : boxes ≡ 4 * yard.b
-        → world_room yard cells boxes state ≡ eqb state (carrier_words * yard.b)
-    unfolding world_room
-    state_decides h = rw (eq-eqb _ _ c, eq-eqb _ _ h)
-
--- What lengths that fit say.
-pub record WorldRoom (yard : Yard) (c b s : ℕ) : Type 0 where
-  pub cells : c ≡ yard.w * yard.h
-  pub boxes : b ≡ 4 * yard.b
-  pub state : s ≡ carrier_words * yard.b
-
-pub room_of_world : (yard : Yard) (cells boxes state : ℕ) → world_room yard cells boxes state ≡ true
-    → WorldRoom yard cells boxes state
-unfolding world_room
-room_of_world yard cells boxes state e =
-    let c = eqb cells (yard.w * yard.h) in
-    let b = eqb boxes (4 * yard.b) in
-    let s = eqb state (carrier_words * yard.b) in
-    let both = and_left (c && b) s e in
-    record {
-      cells = eqb-true _ _ (and_left c b both);
-      boxes = eqb-true _ _ (and_right c b both);
-      state = eqb-true _ _ (and_right (c && b) s e);
-    }
+  carriers_most = ((ranges yard).0 e).b.1
 
 module _ (yard : Yard) (l : Lent) where
-  pub world_wrong : world_room yard (length l.cells) (length l.boxes) (length l.state)
-      ≡ false
-      → room yard l ≡ false
-  unfolding room
-  world_wrong e = rw e
+  pub cells_long : room yard l ≡ true → length l.cells ≡ yard.w * yard.h
+  cells_long e = ((room_fits yard l).0 e).lengths.cell_bytes
 
-  module _
-      (w : world_room yard (length l.cells) (length l.boxes) (length l.state) ≡ true) where
-    pub rows_wrong : (length l.rows ≡ row_count * (carrier_words * yard.b) → ⊥)
-        → room yard l ≡ false
-    unfolding room
-    rows_wrong h = rw (w, ne_eqb _ _ h)
+  pub boxes_long : room yard l ≡ true → length l.boxes ≡ 4 * yard.b
+  boxes_long e = ((room_fits yard l).0 e).lengths.world_words
 
-    pub log_decides : length l.rows ≡ row_count * (carrier_words * yard.b)
-        → room yard l ≡ eqb (length l.log) buffer_size
-    unfolding room
-    log_decides h = rw (w, eq-eqb _ _ h)
+  pub state_long : room yard l ≡ true → length l.state ≡ carrier_words * yard.b
+  state_long e = ((room_fits yard l).0 e).lengths.state_words
 
--- What rule 10 whole says.
-pub record Room (yard : Yard) (l : Lent) : Type 0 where
-  pub world : WorldRoom yard (length l.cells) (length l.boxes) (length l.state)
-  pub rows : length l.rows ≡ row_count * (carrier_words * yard.b)
-  pub log : length l.log ≡ buffer_size
+  pub log_long : room yard l ≡ true → length l.log ≡ buffer_size
+  log_long e = ((room_fits yard l).0 e).log_bytes
 
-pub room_says : (yard : Yard) (l : Lent) → room yard l ≡ true → Room yard l
-unfolding room
-room_says yard l e =
-    let w = world_room yard (length l.cells) (length l.boxes) (length l.state) in
-    let r = eqb (length l.rows) (row_count * (carrier_words * yard.b)) in
-    let g = eqb (length l.log) buffer_size in
-    let both = and_left (w && r) g e in
-    record {
-      world = room_of_world yard _ _ _ (and_left w r both);
-      rows = eqb-true _ _ (and_right w r both);
-      log = eqb-true _ _ (and_right (w && r) g e);
-    }
+  pub boxes_fitting : ranges_hold yard ≡ true → room yard l ≡ true → BoxesFit yard l.boxes
+  boxes_fitting r e = boxes_fit yard r l.boxes ((room_fits yard l).0 e).lengths.world_words
+
+  pub world_fitting : ranges_hold yard ≡ true → room yard l ≡ true
+      → sizes_hold yard l.boxes ≡ true
+      → WorldFits (world_of yard l.cells l.boxes)
+  world_fitting r e z =
+      record {
+        laid = cells_fit yard r l.cells ((room_fits yard l).0 e).lengths.cell_bytes;
+        room = boxes_fitting r e;
+        sizes = z;
+      }
+
+-- What the check of `Session::is_sound` is told.
+pub ruleset lengths_say = (boxes_fitting, world_fitting, state_long, log_long)

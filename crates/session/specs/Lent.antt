@@ -5,6 +5,7 @@ use Rattle.record.specs.Log.{records}
 use Rattle.record.specs.declared.bytes.Record.{Record}
 use Rattle.fleet.specs.State.{World, world_of}
 use Rattle.session.specs.declared.Session.{Session}
+use Rattle.session.specs.declared.Buffers.{Buffers}
 
 -- The lent slices, in the order in which every call takes them.
 pub record Lent : Type 0 where
@@ -18,6 +19,10 @@ pub record Lent : Type 0 where
 abbrev pub lent : List ℕ → List ℤ → List ℤ → List ℤ → List ℕ → Lent
 lent cells boxes state rows log =
     record { cells = cells; boxes = boxes; state = state; rows = rows; log = log }
+
+-- What the code's buffers hold.
+abbrev pub lent_in : Buffers → Lent
+lent_in b = lent b.cells.now b.boxes.now b.state.now b.rows.now b.log.now
 
 -- The world that a session's W, H, B and the lent cells and boxes make.
 abbrev pub world_in : Session → Lent → World

@@ -32,31 +32,19 @@ pub struct Session {
     pub held: usize,
 }
 
-// What opening and a reading answer: the session, or a refusal by its number.
+// The lent slices as a call reads them, in the order in which every call takes them.
 #[derive(Clone, Copy)]
-pub enum Running {
-    Open(Session),
-    Refused(u8),
+pub struct Buffers<'a> {
+    pub cells: &'a [u8],
+    pub boxes: &'a [i32],
+    pub state: &'a [i32],
+    pub rows: &'a [i32],
+    pub log: &'a [u8],
 }
 
-// What a delivery answers.
+// What a delivery that is not refused answers.
 #[derive(Clone, Copy)]
 pub enum Delivered {
     Taken(Session),
     Held(Session),
-    Refused(u8),
-}
-
-// What replay answers.
-#[derive(Clone, Copy)]
-pub enum Replayed {
-    Done,
-    Refused(u8),
-}
-
-// What the digest answers.
-#[derive(Clone, Copy)]
-pub enum Digested {
-    Value(u32),
-    Refused(u8),
 }

@@ -1,47 +1,55 @@
 // Is a session sound, with all that is lent (document 01, '*Sound* means').
 
 ghost use Rattle.std.specs.Prelude.{◌≡◌};
-ghost use Rattle.session.specs.Lent.{lent};
+ghost use Rattle.fleet.specs.State.{sound_state};
+ghost use Rattle.fleet.specs.Fits.{RowsFit, WorldFits};
+ghost use Rattle.session.specs.Lent.{lent_in, world_in};
+ghost use Rattle.session.specs.Calls.{row_in};
 ghost use Rattle.session.specs.Sound.{sound};
 
-use super::Session;
-use super::worlds::has_room;
-use fleet::state_sound;
+use super::{Buffers, Session};
+use fleet::{Rows, Site};
 use record::records_sound;
 use yard::{cells_hold, ranges_hold, sizes_hold};
 
-// Is the session sound with these buffers.
-pub fn is_sound(
-    session: Session,
-    cells: &[u8],
-    boxes: &[i32],
-    state: &[i32],
-    rows: &[i32],
-    log: &[u8],
-) -> bool
-    ensures sound { result ≡ sound session (lent cells.now boxes.now state.now
-        rows.now log.now) }
-{
-    let yard = session.yard;
-    let clock = session.clock;
-    let held = session.held;
-    if !ranges_hold(yard) {
-        return false;
+impl Session {
+    // Is the session sound with these buffers.
+    #[tactic(auto, using(crate::proofs::Room::lengths_say), unfolding(crate::specs::Sound::sound))]
+    pub(super) fn is_sound(self, lent: Buffers) -> bool
+        ensures sound { result ≡ sound self (lent_in lent.entry) }
+    {
+        let yard = self.yard;
+        ranges_hold(yard)
+            && lent.has_room(yard)
+            && cells_hold(lent.cells)
+            && sizes_hold(yard, lent.boxes)
+            && self.clock.is_sound()
+            && records_sound(lent.log, self.held, yard.b)
+            && Site {
+                yard,
+                cells: lent.cells,
+                boxes: lent.boxes,
+            }
+            .state_sound(lent.state)
     }
-    if !has_room(yard, cells, boxes, state, rows, log) {
-        return false;
+
+    // Is the row saved before step t sound, by the same rule.
+    pub(super) fn row_sound(self, lent: Buffers, t: u32) -> bool
+        requires world { WorldFits (world_in self (lent_in lent)) }
+        requires room { RowsFit (world_in self (lent_in lent)) lent.rows.now }
+        ensures rule { result ≡ sound_state (world_in self (lent_in lent.entry))
+            (row_in self (lent_in lent.entry) t) }
+    {
+        let yard = self.yard;
+        let site = Site {
+            yard,
+            cells: lent.cells,
+            boxes: lent.boxes,
+        };
+        let rows = Rows {
+            yard,
+            words: lent.rows,
+        };
+        site.state_sound(rows.row(t))
     }
-    if !cells_hold(cells) {
-        return false;
-    }
-    if !sizes_hold(yard, boxes) {
-        return false;
-    }
-    if !clock.is_sound() {
-        return false;
-    }
-    if !records_sound(log, held, yard.b) {
-        return false;
-    }
-    state_sound(yard, cells, boxes, state)
 }

@@ -3,83 +3,56 @@
 
 ghost use Rattle.std.specs.Prelude.{◌≡◌, true, ◌*◌, length};
 ghost use Rattle.basis.specs.Order.{answer};
-ghost use Rattle.session.specs.Answers.{checked_of};
+ghost use Rattle.basis.specs.Refusal.{answer_of};
 ghost use Rattle.session.specs.Calls.{world_order};
-ghost use Rattle.session.specs.Lent.{lent};
+ghost use Rattle.session.specs.Lent.{lent_in};
 ghost use Rattle.session.specs.Sound.{room, world_room};
 
-use basis::Number;
+use super::Buffers;
+use basis::Refusal;
 use fleet::{Rows, State};
 use record::Buffer;
-use yard::{Yard, cells_hold, ranges_hold, sizes_hold, starts_hold};
-
-// What opening's order says of a world.
-#[derive(Clone, Copy)]
-pub enum Checked {
-    Passed,
-    Refused(u8),
-}
+use yard::{Word, Yard, cells_hold, ranges_hold, sizes_hold, starts_hold};
 
 // Rule 10, of the lengths that replay asks.
+#[tactic(auto, unfolding(crate::specs::Sound::world_room))]
 pub fn world_room(yard: Yard, cells: usize, boxes: usize, state: usize) -> bool
     ensures room { result ≡ world_room yard cells boxes state }
 {
-    let w = yard.w as usize;
-    let h = yard.h as usize;
     let b = yard.b as usize;
-    if cells != w * h {
-        return false;
-    }
-    if boxes != Yard::WORDS * b {
-        return false;
-    }
-    state == State::WORDS * b
+    cells == yard.w as usize * yard.h as usize
+        && boxes == Word::COUNT * b
+        && state == State::WORDS * b
 }
 
-// Rule 10 whole.
-pub fn has_room(
-    yard: Yard,
-    cells: &[u8],
-    boxes: &[i32],
-    state: &[i32],
-    rows: &[i32],
-    log: &[u8],
-) -> bool
-    ensures room { result ≡ room yard (lent cells.now boxes.now state.now
-        rows.now log.now) }
-{
-    let b = yard.b as usize;
-    if !world_room(yard, cells.len(), boxes.len(), state.len()) {
-        return false;
+impl Buffers<'_> {
+    // Rule 10 whole.
+    #[tactic(auto, unfolding(crate::specs::Sound::room))]
+    pub(super) fn has_room(self, yard: Yard) -> bool
+        ensures room { result ≡ room yard (lent_in self.entry) }
+    {
+        world_room(yard, self.cells.len(), self.boxes.len(), self.state.len())
+            && self.rows.len() == Rows::COUNT * (State::WORDS * yard.b as usize)
+            && self.log.len() == Buffer::SIZE
     }
-    if rows.len() != Rows::COUNT * (State::WORDS * b) {
-        return false;
-    }
-    log.len() == Buffer::SIZE
 }
 
 // Opening's order, where rule 10 has been answered.
-#[tactic(auto, using(crate::proofs::Openings::no_ranges))]
-pub fn check_world(yard: Yard, lengths: bool, cells: &[u8], boxes: &[i32]) -> Checked
+#[tactic(auto, using(crate::proofs::Openings::tests), unfolding(crate::specs::Calls::world_order))]
+pub fn check_world(yard: Yard, lengths: bool, cells: &[u8], boxes: &[i32]) -> Result<(), Refusal>
     requires room { lengths ≡ true
         → (length cells.now ≡ yard.w * yard.h) × (length boxes.now ≡ 4 * yard.b) }
-    ensures order { checked_of result
+    ensures order { answer_of result
         ≡ answer (world_order yard lengths cells.now boxes.now) }
 {
     if !ranges_hold(yard) {
-        return Checked::Refused(Number::WORLD);
+        return Err(Refusal::World);
     }
     if !lengths {
-        return Checked::Refused(Number::ROOM);
+        return Err(Refusal::Room);
     }
-    if !cells_hold(cells) {
-        return Checked::Refused(Number::WORLD);
+    if !(cells_hold(cells) && sizes_hold(yard, boxes) && starts_hold(yard, cells, boxes)) {
+        return Err(Refusal::World);
     }
-    if !sizes_hold(yard, boxes) {
-        return Checked::Refused(Number::WORLD);
-    }
-    if !starts_hold(yard, cells, boxes) {
-        return Checked::Refused(Number::WORLD);
-    }
-    Checked::Passed
+    Ok(())
 }

@@ -9,7 +9,8 @@ use mathlib.Core.Path.{◌≡◌, refl, sym, ap, ◌∙◌}
 use mathlib.Core.Bool.{Bool, true, false, not, ◌||◌, or-true}
 use lib.IntN.{ℤ, pos, negsuc, nat_abs}
 use lib.Dec.{T, lit≤}
-use lib.Ieee.{Float, binary64, of_int, round, sum, add, sub, mul, is_nan}
+use lib.Ieee.{Float, binary64, of_int, of_bits, round, sum, add, sub, mul, is_nan}
+use Rattle.basis.specs.Numbers.{step_length}
 use Rattle.shown.specs.Blend.{whole, alpha_of, blend_of, is_within, is_between}
 use Rattle.shown.proofs.Values.{Exactly, AtMost, of_whole, of_neg, add_exactly, add_at_most}
 use Rattle.shown.proofs.Values.{div_exactly}
@@ -20,6 +21,11 @@ use Rattle.shown.proofs.Differences.{rises_over, falls_over, one_number}
 -- Up to here every whole number is an f64.
 abbrev pub most : ℕ
 most = 2 ^ 53
+
+-- The bits of 20000.0, the length of a step, are those of the whole number.
+pub step_bits : of_bits binary64 4671226772094713856 ≡ whole (pos step_length)
+unfolding of_int of_bits
+step_bits = refl
 
 -- A whole number z is high z - low z.
 abbrev sign : ℤ → Bool

@@ -2,7 +2,7 @@
 use Prim.Native.Nat.{ℕ, ◌+◌, ◌<◌, ◌≤◌}
 use native.Mathlib.Omega.{arith}
 use native.Mathlib.Nat.{le_of_lt}
-use mathlib.Core.Path.{◌≡◌, refl, ap}
+use mathlib.Core.Path.{◌≡◌, refl}
 use mathlib.Core.Bool.{false}
 use lib.IntN.{ℤ, pos, negsuc, nat_abs}
 use lib.Signed.{nat_abs-le}
@@ -12,30 +12,17 @@ use lib.Ieee.Back.{positive_back, negative_back}
 use mir.Syntax.{w32}
 use mir.Val.{Fits, SFits}
 use Rattle.basis.specs.Numbers.{step_length}
-use Rattle.basis.specs.Order.{Answer, refused}
 use Rattle.basis.proofs.Order.{one_outcome, one_result}
+use Rattle.basis.proofs.Refusals.{one_answer}
 use Rattle.shown.specs.Blend.{whole, blend_of}
-use Rattle.shown.specs.Answer.{shown_answer}
 use Rattle.shown.specs.Statements.{Determined, Between, ShownPlace, Examples}
-use Rattle.shown.specs.declared.Place.{Place}
-use Rattle.shown.specs.declared.Shown.{Shown}
-use Rattle.shown.specs.declared.Shown.TheVariants.{At, Refused}
 use Rattle.shown.proofs.Between.{most, start, rest, between, no_nan}
-
-number_of : {n m : ℕ} → ◌≡◌ {A = Answer Place} (refused n) (refused m) → n ≡ m
-number_of e = cc
-
-same_answer : (a b : Shown) → shown_answer a ≡ shown_answer b → a ≡ b
-same_answer (At p) (At q) e = let same : p ≡ q = cc in ap At same
-same_answer (At p) (Refused n) e = cc
-same_answer (Refused n) (At q) e = cc
-same_answer (Refused n) (Refused m) e = ap Refused (number_of e)
 
 pub determined : Determined
 determined = record {
   blend = λ p c remainder. one_result;
   shown = λ px py cx cy remainder. one_result;
-  answer = λ this. one_outcome same_answer;
+  answer = λ this. one_outcome one_answer;
 }
 
 unrounded : (z : ℤ) → SFits w32 z → to_signed 31 (whole z) ≡ z

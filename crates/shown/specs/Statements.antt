@@ -1,17 +1,17 @@
 -- What is claimed of the shown place. proofs/Statements.antt proves each record whole.
 -- `SFits w32 z` says that z is an i32, `Fits w32 n` that n is a u32.
-use Rattle.std.specs.Prelude.{ℕ, ◌<◌, ◌≡◌, true, false, ℤ, pos, neg_ℤ, Float}
+use Rattle.std.specs.Prelude.{ℕ, ◌<◌, ◌≡◌, true, false, Result, ℤ, pos, neg_ℤ, Float}
 use Rattle.std.specs.Float.{binary64}
 use Rattle.std.specs.Float.Ieee.{to_signed, to_bits, is_nan}
 use Rattle.std.specs.Int.{w32}
 use Rattle.std.proofs.Common.{Fits, SFits}
 use Rattle.basis.specs.Numbers.{step_length}
 use Rattle.basis.specs.Order.{Answer, Determines}
+use Rattle.basis.specs.Refusal.{answer_of}
+use Rattle.basis.specs.declared.Refusal.{Refusal}
 use Rattle.shown.specs.Blend.{whole, blend_of, is_between}
-use Rattle.shown.specs.Answer.{shown_answer}
 use Rattle.shown.specs.Says.{BlendSays, PlaceSays}
 use Rattle.shown.specs.declared.Place.{Place}
-use Rattle.shown.specs.declared.Shown.{Shown}
 
 -- 'any two outcomes allowed by it coincide', for the contract of each public entry.
 pub record Determined : Type 0 where
@@ -20,7 +20,8 @@ pub record Determined : Type 0 where
   -- `Place::shown`
   pub shown : (px py cx cy : ℤ) (remainder : ℕ) → Determines (PlaceSays px py cx cy remainder)
   -- No two answers stand for the same place or number.
-  pub answer : (this : Answer Place) → Determines (λ (out : Shown). shown_answer out ≡ this)
+  pub answer : (this : Answer Place)
+      → Determines (λ (out : Result Place Refusal). answer_of out ≡ this)
 
 -- One coordinate, shown with this remainder. Floats are equal bit for bit: the sign of a zero
 -- counts.

@@ -11,20 +11,14 @@ pub struct Place {
     pub y: f64,
 }
 
-// What is answered where a shown place is asked for.
-#[derive(Clone, Copy)]
-pub enum Shown {
-    At(Place),
-    Refused(u8),
-}
-
 // One coordinate, `remainder` microseconds after the last step.
+#[tactic(auto, using(crate::proofs::Between::step_bits), unfolding(crate::specs::Blend::blend_of))]
 pub fn blend(previous: i32, present: i32, remainder: u32) -> f64
     ensures blended { BlendSays previous present remainder result }
 {
-    let p = previous as f64;
-    let c = present as f64;
-    let alpha = (remainder as f64) / Place::STEP;
+    let p = f64::from(previous);
+    let c = f64::from(present);
+    let alpha = f64::from(remainder) / Place::STEP;
     p + (c - p) * alpha
 }
 
@@ -33,11 +27,13 @@ impl Place {
     const STEP: f64 = 20000.0;
 
     // Of a carrier that was at (px, py) before the last step and is at (cx, cy) after it.
+    #[tactic(auto, unfolding(crate::specs::Answer::shown_place))]
     pub fn shown(px: i32, py: i32, cx: i32, cy: i32, remainder: u32) -> Place
         ensures placed { PlaceSays px py cx cy remainder result }
     {
-        let x = blend(px, cx, remainder);
-        let y = blend(py, cy, remainder);
-        Place { x, y }
+        Place {
+            x: blend(px, cx, remainder),
+            y: blend(py, cy, remainder),
+        }
     }
 }

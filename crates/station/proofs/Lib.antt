@@ -1,5 +1,5 @@
 -- Laws of the C face.
-pub mod Stores
+pub mod Outcomes
 pub mod Sessions
 pub mod OneRecord
 pub mod Merging

@@ -11,16 +11,14 @@ use Rattle.basis.specs.Order.{Answer, refused, accepted, answer}
 use Rattle.basis.proofs.Order.{passes, fails}
 use Rattle.record.specs.declared.bytes.Record.{Record}
 use Rattle.merge.specs.Calls.{carriers_hold, merge_order, merge_leaves}
-use Rattle.merge.specs.declared.Merged.{Merged}
-use Rattle.merge.specs.declared.Merged.TheVariants as merged
 use Rattle.merge.proofs.Orders.{no_carriers, told_no_room}
 use Rattle.station.specs.Face.{merge_face}
 use Rattle.station.specs.Left.{DONE, Counted, counted, leaves_merged}
 
--- What the C face makes of an outcome of `merge`.
-abbrev pub as_counted : List ℕ → List ℕ → Merged → Counted
-as_counted count out (merged.Refused number) = counted number out count
-as_counted count out (merged.Count records) = counted DONE out (records ∷ [])
+-- What the C face makes of an answer of `merge`.
+abbrev pub as_counted : List ℕ → List ℕ → Answer ℕ → Counted
+as_counted count out (refused number) = counted number out count
+as_counted count out (accepted records) = counted DONE out (records ∷ [])
 
 as_left : (count before : List ℕ) (a : Answer (List Record))
     → as_counted count (merge_leaves before a).out (merge_leaves before a).answer
@@ -56,11 +54,11 @@ module _ (b : ℕ) (one two out count : List ℕ) where
       go false e = fails _ _ e ∙ sym (no_carriers b (length out) one two e)
       go true e = passes _ _ e ∙ passes _ _ (eq-eqb _ _ long)
 
-  pub merging_leaves : (after : List ℕ) (result : Merged) → length count ≡ 1
-      → filled result after ≡ merge_leaves out (answer (merge_order b (length out) one two))
-      → as_counted count after result
+  pub merging_leaves : (after : List ℕ) (a : Answer ℕ) → length count ≡ 1
+      → filled a after ≡ merge_leaves out (answer (merge_order b (length out) one two))
+      → as_counted count after a
       ≡ leaves_merged out count (answer (merge_face b one two out count))
-  merging_leaves after result long e =
-      ap (λ (o : Filled Merged ℕ). as_counted count o.out o.answer) e
+  merging_leaves after a long e =
+      ap (λ (o : Filled (Answer ℕ) ℕ). as_counted count o.out o.answer) e
       ∙ as_left count out (answer (merge_order b (length out) one two))
       ∙ ap (leaves_merged out count) (sym (merges long))

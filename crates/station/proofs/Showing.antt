@@ -1,78 +1,104 @@
 -- The ways through a call that only shows something of a session.
 use Prim.Native.Nat.{ℕ}
-use mathlib.Core.Path.{◌≡◌, refl, sym, ap, ◌∙◌}
-use mathlib.Core.Bool.{Bool, true, false, ◌&&◌}
-use mathlib.Core.List.{List}
-use lib.Dec.{eqb}
+use mathlib.Core.Path.{◌≡◌, ap, ◌∙◌}
+use mathlib.Core.Bool.{true}
+use mathlib.Core.List.{List, [], ◌∷◌}
+use lib.Ieee.{Float}
 use lib.ListN.{length}
-use borrow.Author.Tests.{eqb-true, eq-eqb, ne_eqb}
-use Rattle.basis.specs.Filled.{filled}
+use borrow.Author.Tests.{eq-eqb, ne_eqb}
 use Rattle.basis.specs.Numbers.{FAULT}
 use Rattle.basis.specs.Order.{Order, check, give, and_then, answer, refused, accepted}
 use Rattle.basis.proofs.Order.{passes, fails, gives, stops, goes_on}
-use Rattle.basis.proofs.Tests.{and_left, and_right}
+use Rattle.session.specs.Calls.{digest_order, shown_order}
 use Rattle.session.specs.Lent.{Lent}
 use Rattle.session.specs.Sound.{sound}
-use Rattle.station.specs.Face.{shows}
-use Rattle.station.specs.Left.{fills, DONE}
-use Rattle.station.specs.Words.{session_of, nine, words_fit}
-use Rattle.station.proofs.Sessions.{fit_nine, unfit}
+use Rattle.session.specs.declared.Session.{Session}
+use Rattle.shown.specs.declared.Place.{Place}
+use Rattle.station.specs.Face.{shows, digest_face, shown_face}
+use Rattle.station.specs.Words.{session_of, nine, words_order}
+use Rattle.station.proofs.Sessions.{read_nine, read_session, unread}
 
-module _ {A B : Type 0} (count : ℕ) (out : List B) (words : List ℕ) (order : Order A)
-    (parts : A → List B) where
-  pub wrong_out : (length out ≡ count → ⊥)
+module _ {A B : Type 0} (count : ℕ) (out : List B) (words : List ℕ) (parts : A → List B) where
+  wrong_out : (order : Order A) → (length out ≡ count → ⊥)
       → answer (shows count out words order parts) ≡ refused FAULT
   unfolding shows
-  wrong_out h = fails _ _ (ne_eqb _ _ h)
+  wrong_out order h = fails _ _ (ne_eqb _ _ h)
 
-  -- With both lengths right, what is shown decides.
-  pub shows_order : length out ≡ count → nine words ≡ true
-      → answer (shows count out words order parts)
-      ≡ answer (and_then order (λ a. give (parts a)))
-  unfolding shows
-  shows_order long e = passes _ _ (eq-eqb _ _ long) ∙ passes _ _ e
+  module _ (long : length out ≡ count) where
+    -- With both lengths right, what is shown decides.
+    pub shows_order : (order : Order A) → nine words ≡ true
+        → answer (shows count out words order parts)
+        ≡ answer (and_then order (λ a. give (parts a)))
+    unfolding shows
+    shows_order order e = passes _ _ (eq-eqb _ _ long) ∙ passes _ _ e
 
--- What is asked first: the slice's length, and words that fit.
-module _ {B : Type 0} (count : ℕ) (out : List B) (words : List ℕ) where
-  abbrev asked : Bool
-  asked = eqb (length out) count && words_fit words
-
-  pub asked_long : asked ≡ true → length out ≡ count
-  asked_long e = eqb-true _ _ (and_left (eqb (length out) count) (words_fit words) e)
-
-  pub asked_fits : asked ≡ true → words_fit words ≡ true
-  asked_fits e = and_right (eqb (length out) count) (words_fit words) e
-
--- Where it holds, the order of what is shown decides.
-module _ {A B : Type 0} (count : ℕ) (out : List B) (words : List ℕ) (order : Order A)
-    (parts : A → List B) (e : asked count out words ≡ true) where
-  decides : answer (shows count out words order parts)
-      ≡ answer (and_then order (λ a. give (parts a)))
-  decides =
-      shows_order _ _ _ _ _ (asked_long count out words e)
-      (fit_nine words (asked_fits count out words e))
-
-  pub shows_refused : {number : ℕ} → answer order ≡ refused number
-      → filled number out ≡ fills out (answer (shows count out words order parts))
-  shows_refused q = sym (ap (fills out) (decides ∙ stops _ _ q))
-
-  pub shows_given : {a : A} {after : List B} → answer order ≡ accepted a → after ≡ parts a
-      → filled DONE after ≡ fills out (answer (shows count out words order parts))
-  shows_given q put =
-      ap (filled DONE) put ∙ sym (ap (fills out) (decides ∙ goes_on _ _ q ∙ gives _))
-
--- Where it fails, 14: the session is tested first in what is shown.
-pub shows_unasked : {A B : Type 0} (count : ℕ) (out : List B) (words : List ℕ) (l : Lent)
-    (rest : Order A) (parts : A → List B) → asked count out words ≡ false
-    → filled FAULT out
-    ≡ fills out
-    (answer (shows count out words (check (sound (session_of words) l) FAULT rest) parts))
-unfolding shows and_then
-shows_unasked count out words l rest parts e =
-    sym (ap (fills out) (go (eqb (length out) count) refl))
-  where
-    go : (t : Bool) → eqb (length out) count ≡ t
+    -- Words that are no session: the session is tested first in what is shown.
+    shows_unread : (l : Lent) (rest : Order A) {number : ℕ}
+        → answer (words_order words) ≡ refused number
         → answer (shows count out words (check (sound (session_of words) l) FAULT rest) parts)
-        ≡ refused FAULT
-    go false q = fails _ _ q
-    go true q = passes _ _ q ∙ unfit words l _ (rw q at e)
+        ≡ refused number
+    unfolding shows and_then
+    shows_unread l rest e = passes _ _ (eq-eqb _ _ long) ∙ unread words l _ e
+
+    module _ (order : Session → Order A) {s : Session}
+        (read : answer (words_order words) ≡ accepted s)
+      where
+        decides : answer (shows count out words (order (session_of words)) parts)
+            ≡ answer (and_then (order s) (λ a. give (parts a)))
+        decides =
+            shows_order _ (read_nine words read)
+            ∙ ap (λ x. answer (and_then (order x) (λ a. give (parts a)))) (read_session words read)
+
+        shows_refused : {number : ℕ} → answer (order s) ≡ refused number
+            → answer (shows count out words (order (session_of words)) parts) ≡ refused number
+        shows_refused q = decides ∙ stops _ _ q
+
+        shows_given : {a : A} → answer (order s) ≡ accepted a
+            → answer (shows count out words (order (session_of words)) parts) ≡ accepted (parts a)
+        shows_given q = decides ∙ goes_on _ _ q ∙ gives _
+
+-- The digest, into one word.
+module _ (l : Lent) (words out : List ℕ) where
+  pub digest_room : (length out ≡ 1 → ⊥) → answer (digest_face l words out) ≡ refused FAULT
+  unfolding digest_face
+  digest_room h = wrong_out _ _ _ _ _ h
+
+  module _ (long : length out ≡ 1) where
+    pub digest_unread : {number : ℕ} → answer (words_order words) ≡ refused number
+        → answer (digest_face l words out) ≡ refused number
+    unfolding digest_face digest_order
+    digest_unread e = shows_unread _ _ _ _ long l _ e
+
+    module _ {s : Session} (read : answer (words_order words) ≡ accepted s) where
+      pub digest_refused : {number : ℕ} → answer (digest_order s l) ≡ refused number
+          → answer (digest_face l words out) ≡ refused number
+      unfolding digest_face
+      digest_refused e = shows_refused _ _ _ _ long (λ s. digest_order s l) read e
+
+      pub digest_given : {value : ℕ} → answer (digest_order s l) ≡ accepted value
+          → answer (digest_face l words out) ≡ accepted (value ∷ [])
+      unfolding digest_face
+      digest_given e = shows_given _ _ _ _ long (λ s. digest_order s l) read e
+
+-- The shown place, into two f64.
+module _ (carrier : ℕ) (l : Lent) (words : List ℕ) (out : List Float) where
+  pub shown_room : (length out ≡ 2 → ⊥) → answer (shown_face carrier l words out) ≡ refused FAULT
+  unfolding shown_face
+  shown_room h = wrong_out _ _ _ _ _ h
+
+  module _ (long : length out ≡ 2) where
+    pub shown_unread : {number : ℕ} → answer (words_order words) ≡ refused number
+        → answer (shown_face carrier l words out) ≡ refused number
+    unfolding shown_face shown_order
+    shown_unread e = shows_unread _ _ _ _ long l _ e
+
+    module _ {s : Session} (read : answer (words_order words) ≡ accepted s) where
+      pub shown_refused : {number : ℕ} → answer (shown_order s l carrier) ≡ refused number
+          → answer (shown_face carrier l words out) ≡ refused number
+      unfolding shown_face
+      shown_refused e = shows_refused _ _ _ _ long (λ s. shown_order s l carrier) read e
+
+      pub shown_given : {place : Place} → answer (shown_order s l carrier) ≡ accepted place
+          → answer (shown_face carrier l words out) ≡ accepted (place.x ∷ place.y ∷ [])
+      unfolding shown_face
+      shown_given e = shows_given _ _ _ _ long (λ s. shown_order s l carrier) read e

@@ -18,7 +18,6 @@ use Rattle.merge.specs.Calls.{carriers_hold}
 use Rattle.load.specs.Step.{step_order}
 use Rattle.yard.specs.Rule9.{ranges_hold}
 use Rattle.yard.specs.declared.world.Yard.{Yard}
-use Rattle.rope.specs.Step.{rope_order}
 use Rattle.session.specs.Calls.{world_order, open_order, reading_order, deliver_order}
 use Rattle.session.specs.Calls.{digest_order, shown_order}
 use Rattle.session.specs.Lent.{Lent}
@@ -28,14 +27,14 @@ use Rattle.session.proofs.Good.{bad_ranges}
 use Rattle.station.specs.Words.{session_words, session_of, nine}
 use Rattle.station.specs.Face.{open_face, reading_face, deliver_face, shows, digest_face}
 use Rattle.station.specs.Face.{shown_face, step_records_face, merge_face, load_of, load_step_face}
-use Rattle.station.specs.Ropes.{kinds_hold, force_of, forces_of, point_of, rope_face}
+use Rattle.station.specs.Ropes.{force_of, rope_face}
 use Rattle.station.specs.Statements.{NineWords, Determined, Refusals}
 use Rattle.station.specs.Statements.{Lengths, Thin, LoadFace, TwoNumbers}
 use Rattle.station.proofs.Loading.{load_numbers}
 use Rattle.station.proofs.Merging.{wrong_count, wrong_buffer, merges}
 use Rattle.station.proofs.OneRecord.{read_no_room, not_eight}
-use Rattle.station.proofs.Showing.{wrong_out, shows_order}
-use Rattle.station.proofs.Ropes.{wrong_numbers, wrong_point}
+use Rattle.station.proofs.Showing.{digest_room, shown_room, shows_order}
+use Rattle.station.proofs.Ropes.{wrong_numbers, wrong_point, steps}
 
 session_back : (words : List ℕ) → length words ≡ 9 → session_words (session_of words) ≡ words
 unfolding session_words session_of
@@ -131,16 +130,6 @@ module _ (words : List ℕ) (h : length words ≡ 9 → ⊥) (l : Lent) where
   shown_fault carrier out = shows_fault 2 out _ _
 
 -- A slice that isn't as long as what is given.
-digest_room : (l : Lent) (words out : List ℕ) → (length out ≡ 1 → ⊥)
-    → answer (digest_face l words out) ≡ refused FAULT
-unfolding digest_face
-digest_room l words out h = wrong_out _ _ _ _ _ h
-
-shown_room : (carrier : ℕ) (l : Lent) (words : List ℕ) (out : List Float) → (length out ≡ 2 → ⊥)
-    → answer (shown_face carrier l words out) ≡ refused FAULT
-unfolding shown_face
-shown_room carrier l words out h = wrong_out _ _ _ _ _ h
-
 part_room : (log : List ℕ) (step : ℕ) (out : List ℕ) → (length out ≡ 2 → ⊥)
     → answer (step_records_face log step out) ≡ refused ROOM
 unfolding step_records_face
@@ -171,9 +160,9 @@ rope_room kinds numbers point wrong = go (eqb (length numbers) (2 * length kinds
     go : (t : Bool) → eqb (length numbers) (2 * length kinds) ≡ t
         → (length numbers ≡ 2 * length kinds → ⊥) ⊎ (length point ≡ 2 → ⊥)
         → answer (rope_face kinds numbers point) ≡ refused ROOM
-    go false e h = wrong_numbers kinds numbers point e
+    go false e h = wrong_numbers kinds numbers point (eqb-false _ _ e)
     go true e (inl h) = absurd (h (eqb-true _ _ e))
-    go true e (inr h) = wrong_point kinds numbers point e h
+    go true e (inr h) = wrong_point kinds numbers point (eqb-true _ _ e) h
 
 pub lengths : Lengths
 lengths =
@@ -210,7 +199,7 @@ digests : (l : Lent) (words out : List ℕ) → length words ≡ 9 → length ou
     → answer (digest_face l words out)
     ≡ answer (and_then (digest_order (session_of words) l) (λ value. give (value ∷ [])))
 unfolding digest_face
-digests l words out long one = shows_order _ _ _ _ _ one (eq-eqb _ _ long)
+digests l words out long one = shows_order _ _ _ _ one _ (eq-eqb _ _ long)
 
 shows_place : (carrier : ℕ) (l : Lent) (words : List ℕ) (out : List Float)
     → length words ≡ 9 → length out ≡ 2
@@ -218,7 +207,7 @@ shows_place : (carrier : ℕ) (l : Lent) (words : List ℕ) (out : List Float)
     ≡ answer (and_then (shown_order (session_of words) l carrier)
     (λ place. give (place.x ∷ place.y ∷ [])))
 unfolding shown_face
-shows_place carrier l words out long two = shows_order _ _ _ _ _ two (eq-eqb _ _ long)
+shows_place carrier l words out long two = shows_order _ _ _ _ two _ (eq-eqb _ _ long)
 
 load_steps : (stiffness : ℕ) (words : List ℤ) → length words ≡ 2
     → answer (load_step_face stiffness words)
@@ -226,15 +215,6 @@ load_steps : (stiffness : ℕ) (words : List ℤ) → length words ≡ 2
     (λ after. give (after.x ∷ after.v ∷ [])))
 unfolding load_step_face
 load_steps stiffness words two = passes _ _ (eq-eqb _ _ two)
-
-steps_rope : (kinds : List ℕ) (numbers point : List Float)
-    → length numbers ≡ 2 * length kinds → length point ≡ 2 → kinds_hold kinds ≡ true
-    → answer (rope_face kinds numbers point)
-    ≡ answer (and_then (rope_order (point_of point) (forces_of kinds numbers) (length kinds))
-    (λ next. give (next.place ∷ next.speed ∷ [])))
-unfolding rope_face
-steps_rope kinds numbers point two long known =
-    passes _ _ (eq-eqb _ _ two) ∙ passes _ _ (eq-eqb _ _ long) ∙ passes _ _ known
 
 -- A kind that isn't 1.
 second_unused : (kind : ℕ) (first second other : Float) → kind ≢ 1
@@ -255,7 +235,7 @@ thin =
       shown = shows_place;
       merge = merges;
       load_step = load_steps;
-      rope_step = steps_rope;
+      rope_step = steps;
     }
 
 session_forth : (s : Session) → session_of (session_words s) ≡ s

@@ -1,5 +1,10 @@
 -- The session of the C face: nine words, w, h, b, first, last, remainder, cut, steps, held.
-use Rattle.std.specs.Prelude.{ℕ, ◌^◌, Bool, ◌&&◌, List, [], ◌∷◌, ltb, eqb, get_or, length}
+use Rattle.std.specs.Prelude.{ℕ, ◌^◌, ◌<◌, ◌≤◌, ◌≡◌, Bool, ◌&&◌, List, [], ◌∷◌, ltb, eqb}
+use Rattle.std.specs.Prelude.{get_or, length, Result, MatchResult}
+use Rattle.basis.specs.Numbers.{FAULT}
+use Rattle.basis.specs.Order.{Order, check, give}
+use Rattle.basis.specs.declared.Refusal.{Refusal}
+use Rattle.basis.specs.declared.Refusal.TheVariants as why
 use Rattle.session.specs.declared.Session.{Session}
 
 -- The words of a session.
@@ -46,3 +51,13 @@ words_fit words =
     && fits_u32 (get_or words 0 0)
     && fits_u32 (get_or words 1 0)
     && fits_u32 (get_or words 2 0)
+
+-- A word is read as a u32; 14 for one that isn't.
+abbrev pub SmallOf : ℕ → Result ℕ Refusal → Type 0
+SmallOf word out =
+    MatchResult out (λ small. (small ≡ word) × (word < 2 ^ 32))
+    (λ refusal. (2 ^ 32 ≤ word) × (refusal ≡ why.Fault))
+
+-- Words are read as a session; 14 where they don't fit.
+unfoldable pub words_order : List ℕ → Order Session
+words_order words = check (words_fit words) FAULT (give (session_of words))

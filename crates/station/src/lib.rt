@@ -20,7 +20,9 @@ mod show;
 mod words;
 
 ghost use Rattle.std.specs.Prelude.{◌≡◌};
+ghost use Rattle.station.specs.Told.{told_of};
 
+use basis::Refusal;
 pub use calls::{wuthracomb_deliver, wuthracomb_open, wuthracomb_reading, wuthracomb_replay};
 pub use loads::wuthracomb_load_step;
 pub use merges::wuthracomb_merge;
@@ -30,17 +32,25 @@ pub use records::{
 pub use rope_ends::wuthracomb_rope_step;
 pub use show::{wuthracomb_digest, wuthracomb_shown};
 
+// The numbers that C is told of an accepted call; those of a refusal are `Refusal`'s.
 #[derive(Drop)]
 struct Face {}
 
 impl Face {
+    // A delivery: the record is now held.
+    const TAKEN: u32 = 0;
+    // A delivery: the same record was held already.
+    const HELD: u32 = 1;
     // An accepted call other than a delivery.
-    pub const DONE: u32 = 255;
+    const DONE: u32 = 255;
 }
 
-// A number of the table, as the C face gives it.
-fn wide(number: u8) -> u32
-    ensures same { result ≡ number }
+// What a call tells by a number: its own where it is accepted, else that of the refusal.
+fn told(outcome: Result<u32, Refusal>) -> u32
+    ensures told { result ≡ told_of outcome }
 {
-    number as u32
+    match outcome {
+        Ok(number) => number,
+        Err(why) => u32::from(why),
+    }
 }

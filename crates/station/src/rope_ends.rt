@@ -1,76 +1,88 @@
 // The C face of `rope`.
 
-ghost use Rattle.std.specs.Prelude.{◌≡◌, ◌*◌, ◌≤◌, eqb, length, take};
+ghost use Rattle.std.specs.Prelude.{◌≡◌, ◌*◌, length};
 ghost use Rattle.basis.specs.Filled.{filled};
-ghost use Rattle.station.specs.Ropes.{force_of, forces_of, kinds_hold};
+ghost use Rattle.basis.specs.Order.{answer};
+ghost use Rattle.station.specs.Ropes.{KindOf, force_of, forces_order, number_of_kind, put_of};
 ghost use Rattle.station.specs.Says.{RopeStepSays};
+ghost use Rattle.station.specs.Told.{told_of};
 
-use super::{Face, wide};
-use basis::Number;
-use rope::{Force, Point, Stepped};
+use super::{Face, told};
+use basis::Refusal;
+use rope::{Force, Point};
 
-#[derive(Drop)]
-struct Kind {}
+// The kinds of forces: 0, 1 and 2 (document 02, §8).
+#[derive(Clone, Copy)]
+enum Kind {
+    Pull,
+    Spring,
+    Drag,
+}
+
+impl TryFrom<u32> for Kind {
+    type Error = Refusal;
+
+    ghost try_from_gives = { KindOf };
+
+    fn try_from(kind: u32) -> Result<Kind, Refusal> {
+        match kind {
+            0 => Ok(Kind::Pull),
+            1 => Ok(Kind::Spring),
+            2 => Ok(Kind::Drag),
+            _ => Err(Refusal::Rope),
+        }
+    }
+}
 
 impl Kind {
-    const PULL: u32 = 0;
-
-    const SPRING: u32 = 1;
-
-    const DRAG: u32 = 2;
-}
-
-// Are there two numbers for each of `forces`.
-fn two_each(forces: usize, numbers: usize) -> bool
-    ensures two { result ≡ eqb numbers (2 * forces) }
-{
-    if numbers % 2 != 0 {
-        return false;
-    }
-    numbers / 2 == forces
-}
-
-// Is each kind that of a force.
-fn kinds_hold(kinds: &[u32]) -> bool
-    ensures hold { result ≡ kinds_hold kinds.now }
-{
-    let mut i = 0;
-    while i < kinds.len() {
-        if kinds[i] > Kind::DRAG {
-            return false;
+    // The force of two numbers; a pull and a drag don't use the second.
+    #[tactic(auto, unfolding(crate::specs::Ropes::force_of))]
+    fn force(self, first: f64, second: f64) -> Force
+        ensures force { result ≡ force_of (number_of_kind self) first second }
+    {
+        match self {
+            Kind::Pull => Force::Pull(first),
+            Kind::Spring => Force::Spring(first, second),
+            Kind::Drag => Force::Drag(first),
         }
-        i += 1;
     }
-    true
 }
 
-// The force of a kind with its two numbers.
-fn force_of(kind: u32, first: f64, second: f64) -> Force
-    ensures force { result ≡ force_of kind first second }
-{
-    if kind == Kind::PULL {
-        return Force::Pull(first);
-    }
-    if kind == Kind::SPRING {
-        return Force::Spring(first, second);
-    }
-    Force::Drag(first)
-}
-
-// The forces of these kinds and numbers, in an array; what lies past them plays no part.
-fn forces_of(kinds: &[u32], numbers: &[f64]) -> [Force; 8]
-    requires few { length kinds.now ≤ 8 }
+// Puts in the forces of these kinds and numbers; 18 where a kind is none. They are not given back
+// in the `Result`, which would copy an array of them.
+fn put_forces(kinds: &[u32], numbers: &[f64], forces: &mut [Force]) -> Result<(), Refusal>
+    requires room { length forces.old ≡ length kinds.now }
     requires two { length numbers.now ≡ 2 * length kinds.now }
-    ensures forces { take (length kinds.now) result
-        ≡ forces_of kinds.now numbers.now }
+    ensures put { put_of result forces.new ≡ answer (forces_order kinds.now numbers.now) }
 {
-    let mut forces = [Force::Pull(0.0); 8];
-    let mut i = 0;
-    while i < kinds.len() {
-        forces[i] = force_of(kinds[i], numbers[2 * i], numbers[2 * i + 1]);
-        i += 1;
+    for (i, kind) in kinds.iter().enumerate() {
+        let kind = Kind::try_from(*kind)?;
+        forces[i] = kind.force(numbers[2 * i], numbers[2 * i + 1]);
     }
-    forces
+    Ok(())
+}
+
+// The lengths stand before all that is refused as 18.
+fn step_in(kinds: &[u32], numbers: &[f64], words: &mut [f64]) -> Result<u32, Refusal>
+    ensures stepped { RopeStepSays kinds.now numbers.now words.old
+        (filled (told_of result) words.new) }
+{
+    if numbers.len() != 2 * kinds.len() {
+        return Err(Refusal::Room);
+    }
+    let [place, speed] = *words else {
+        return Err(Refusal::Room);
+    };
+    if kinds.len() > Force::MOST {
+        return Err(Refusal::Rope);
+    }
+    let mut room = [Force::Pull(0.0); Force::MOST];
+    let forces = &mut room[..kinds.len()];
+    put_forces(kinds, numbers, forces)?;
+    let next = Point { place, speed }.step(forces)?;
+    words[0] = next.place;
+    words[1] = next.speed;
+    Ok(Face::DONE)
 }
 
 // One step of a rope end.
@@ -78,28 +90,5 @@ pub fn wuthracomb_rope_step(kinds: &[u32], numbers: &[f64], point: &mut [f64]) -
     ensures stepped { RopeStepSays kinds.now numbers.now point.old
         (filled result point.new) }
 {
-    if !two_each(kinds.len(), numbers.len()) {
-        return wide(Number::ROOM);
-    }
-    if point.len() != 2 {
-        return wide(Number::ROOM);
-    }
-    if kinds.len() > Force::MOST {
-        return wide(Number::ROPE);
-    }
-    if !kinds_hold(kinds) {
-        return wide(Number::ROPE);
-    }
-    let end = Point {
-        place: point[0],
-        speed: point[1],
-    };
-    match end.step(forces_of(kinds, numbers), kinds.len()) {
-        Stepped::Refused(number) => wide(number),
-        Stepped::Moved(next) => {
-            point[0] = next.place;
-            point[1] = next.speed;
-            Face::DONE
-        }
-    }
+    told(step_in(kinds, numbers, point))
 }

@@ -1,5 +1,6 @@
-// The library for C, as include/wuthracomb.h has it: each export calls the function of `station` of
-// its name, and has that one's clauses.
+// The library for C, as include/wuthracomb.h has it: each export calls the function of `station`
+// of its name, and has that one's signature and clauses. They stand here again, since C links
+// functions of this crate, and a clause isn't passed on with a call.
 //   records    one record, a log, the records of one step
 //   calls      opening, reading, delivery, replay
 //   show       the digest, and the shown place of a carrier

@@ -1,224 +1,121 @@
-// A session of the practice yard with all that is lent, and a line for each call.
-use super::{answers, say};
+// A session in the cells of the practice yard with all that is lent.
+use super::say;
+use basis::Refusal;
+use clock::Clock;
 use digest::Digest;
-use fleet::{Practice, Rows, State};
-use record::{Buffer, Record};
-use session::{Delivered, Replayed, Running, Session};
+use fleet::Practice;
+use record::Buffer;
+use session::{Buffers, Delivered, Session};
 use std::io;
 use yard::Yard;
 
 // The buffers go by value with the session: each call lends them, and gives back what it left.
 #[derive(Clone, Copy)]
-pub struct Desk {
+pub struct Desk<const WORDS: usize, const ROWS: usize> {
     pub session: Session,
-    pub state: [i32; State::WORDS],
-    pub rows: [i32; Rows::COUNT * State::WORDS],
+    pub boxes: &'static [i32],
+    pub state: [i32; WORDS],
+    pub rows: [i32; ROWS],
     pub log: [u8; Buffer::SIZE],
 }
 
-// What a reading leaves, and what it answers.
-#[derive(Clone, Copy)]
-struct AfterReading {
-    left: Desk,
-    answer: Running,
-}
-
-// What a delivery leaves, and what it answers.
-#[derive(Clone, Copy)]
-struct AfterDelivery {
-    left: Desk,
-    answer: Delivered,
-}
-
-impl Desk {
-    // The practice yard, opened on buffers full of sevens.
-    pub fn open(rt: &impl Print, first: u64) -> io::Result<Desk> {
-        let cells = Practice::CELLS;
-        let boxes = Practice::BOXES;
-        say::named(rt, b"open the practice yard at", first)?;
-        Desk::sevens().opened(rt, Practice::YARD, first, &cells, &boxes)
-    }
-
-    fn sevens() -> Desk {
-        let session = answers::closed(Practice::YARD);
-        let state = [7i32; State::WORDS];
-        let rows = [7i32; Rows::COUNT * State::WORDS];
-        let log = [7u8; Buffer::SIZE];
+impl<const WORDS: usize, const ROWS: usize> Desk<WORDS, ROWS> {
+    // Buffers full of sevens; what stands for a session while none is open yet.
+    pub fn sevens(yard: Yard, boxes: &'static [i32]) -> Self {
         Desk {
-            session,
-            state,
-            rows,
-            log,
+            session: Session {
+                yard,
+                clock: Clock::new(0),
+                held: 0,
+            },
+            boxes,
+            state: [7; WORDS],
+            rows: [7; ROWS],
+            log: [7; Buffer::SIZE],
         }
     }
 
-    // Opening of any world, on the buffers as they are; its name is already written.
-    pub fn opened(
-        self,
-        rt: &impl Print,
+    fn lent(&self) -> Buffers<'_> {
+        Buffers {
+            cells: &Practice::CELLS,
+            boxes: self.boxes,
+            state: &self.state,
+            rows: &self.rows,
+            log: &self.log,
+        }
+    }
+
+    // Opening of any world on the buffers as they are; a refusal leaves the session before.
+    pub fn open_on(
+        &mut self,
         yard: Yard,
         first: u64,
         cells: &[u8],
         boxes: &[i32],
-    ) -> io::Result<Desk> {
-        let old = self.session;
-        let mut state = self.state;
-        let mut rows = self.rows;
-        let mut log = self.log;
-        let answer = Session::open(yard, first, cells, boxes, &mut state, &mut rows, &mut log);
-        let session = answers::running(answer, old);
-        let left = Desk {
-            session,
-            state,
-            rows,
-            log,
-        };
-        answers::say_running(rt, answer)?;
-        say::ended(rt, self.whole(), left.whole())?;
-        Ok(left)
+    ) -> Result<Session, Refusal> {
+        let answer = Session::open(
+            yard,
+            first,
+            cells,
+            boxes,
+            &mut self.state,
+            &mut self.rows,
+            &mut self.log,
+        );
+        self.session = answer.unwrap_or(self.session);
+        answer
     }
 
-    fn read(self, reading: u64) -> AfterReading {
-        let old = self.session;
-        let cells = Practice::CELLS;
-        let boxes = Practice::BOXES;
-        let mut state = self.state;
-        let mut rows = self.rows;
-        let log = self.log;
-        let answer = old.reading(reading, &cells, &boxes, &mut state, &mut rows, &log);
-        let session = answers::running(answer, old);
-        let left = Desk {
-            session,
-            state,
-            rows,
-            log,
-        };
-        AfterReading { left, answer }
+    pub fn read(&mut self, reading: u64) -> Result<Session, Refusal> {
+        let answer = self.session.reading(
+            reading,
+            &Practice::CELLS,
+            self.boxes,
+            &mut self.state,
+            &mut self.rows,
+            &self.log,
+        );
+        self.session = answer.unwrap_or(self.session);
+        answer
     }
 
-    pub fn reading(self, rt: &impl Print, reading: u64) -> io::Result<Desk> {
-        let after = self.read(reading);
-        let left = after.left;
-        let answer = after.answer;
-        say::named(rt, b"reading", reading)?;
-        answers::say_running(rt, answer)?;
-        say::ended(rt, self.whole(), left.whole())?;
-        Ok(left)
-    }
-
-    // 100 steps made; a line for the last reading alone.
-    pub fn hundred(self, rt: &impl Print) -> io::Result<Desk> {
-        let first = self.read(250_000).left.read(500_000).left;
-        let half = first.read(750_000).left.read(1_000_000).left;
-        let most = half.read(1_250_000).left.read(1_500_000).left;
-        most.read(1_750_000).left.reading(rt, 2_000_000)
-    }
-
-    fn handed(self, bytes: &[u8]) -> AfterDelivery {
-        let old = self.session;
-        let cells = Practice::CELLS;
-        let boxes = Practice::BOXES;
-        let mut state = self.state;
-        let mut rows = self.rows;
-        let mut log = self.log;
-        let answer = old.deliver(bytes, &cells, &boxes, &mut state, &mut rows, &mut log);
-        let session = answers::delivered(answer, old);
-        let left = Desk {
-            session,
-            state,
-            rows,
-            log,
-        };
-        AfterDelivery { left, answer }
-    }
-
-    // A delivery of any bytes; its name is already written.
-    pub fn bytes(self, rt: &impl Print, bytes: &[u8]) -> io::Result<Desk> {
-        let after = self.handed(bytes);
-        let left = after.left;
-        let answer = after.answer;
-        answers::say_delivered(rt, answer)?;
-        say::ended(rt, self.whole(), left.whole())?;
-        Ok(left)
-    }
-
-    pub fn deliver(self, rt: &impl Print, step: u32, carrier: u8, lever: u8) -> io::Result<Desk> {
-        let r = Record {
-            step,
-            carrier,
-            lever,
-        };
-        let bytes = record::bytes_of(r);
-        answers::say_record(rt, step, carrier, lever)?;
-        self.bytes(rt, &bytes)
-    }
-
-    // A delivery with no line.
-    pub fn put(self, r: Record) -> Desk {
-        let bytes = record::bytes_of(r);
-        self.handed(&bytes).left
-    }
-
-    fn whole(self) -> u32 {
-        let state = self.state;
-        let rows = self.rows;
-        let log = self.log;
-        answers::whole(&state, &rows, &log)
-    }
-
-    pub fn digest(self, rt: &impl Print) -> io::Result<()> {
-        let cells = Practice::CELLS;
-        let boxes = Practice::BOXES;
-        let state = self.state;
-        let rows = self.rows;
-        let log = self.log;
-        let answer = session::digest(self.session, &cells, &boxes, &state, &rows, &log);
-        answers::say_digest(rt, answer)?;
-        say::hex(rt, b", all lent", self.whole())?;
-        say::text(rt, b"\n")
-    }
-
-    pub fn shown(self, rt: &impl Print, carrier: u32) -> io::Result<()> {
-        let cells = Practice::CELLS;
-        let boxes = Practice::BOXES;
-        let state = self.state;
-        let rows = self.rows;
-        let log = self.log;
-        let answer = session::shown(self.session, carrier, &cells, &boxes, &state, &rows, &log);
-        answers::say_shown(rt, carrier, answer)
-    }
-
-    // The held part, replayed.
-    pub fn replay(self, rt: &impl Print, steps: u32) -> io::Result<()> {
-        let log = self.log;
-        replay_front(rt, steps, &log, self.session.held)
-    }
-}
-
-fn replay_front(rt: &impl Print, steps: u32, log: &[u8], held: usize) -> io::Result<()> {
-    if held <= log.len() / Record::SIZE {
-        replay(rt, steps, &log[..Record::SIZE * held])?;
-    }
-    Ok(())
-}
-
-// A log replayed in the practice yard: the state's words, and the digest of the steps and them.
-pub fn replay(rt: &impl Print, steps: u32, log: &[u8]) -> io::Result<()> {
-    let cells = Practice::CELLS;
-    let boxes = Practice::BOXES;
-    let mut state = [7i32; State::WORDS];
-    let before = Digest::of_state(steps, &state).value;
-    let answer = session::replay(Practice::YARD, steps, &cells, &boxes, &mut state, log);
-    let after = Digest::of_state(steps, &state).value;
-    say::named(rt, b"replay", steps as u64)?;
-    say::named(rt, b" of bytes", log.len() as u64)?;
-    say::text(rt, b":")?;
-    match answer {
-        Replayed::Done => {
-            say::state(rt, &state)?;
-            say::hex(rt, b", digest", after)?;
+    pub fn hand(&mut self, bytes: &[u8]) -> Result<Delivered, Refusal> {
+        let answer = self.session.deliver(
+            bytes,
+            &Practice::CELLS,
+            self.boxes,
+            &mut self.state,
+            &mut self.rows,
+            &mut self.log,
+        );
+        if let Ok(Delivered::Taken(session) | Delivered::Held(session)) = answer {
+            self.session = session;
         }
-        Replayed::Refused(number) => say::refused(rt, number)?,
+        answer
     }
-    say::ended(rt, before, after)
+
+    // One number of all lent bytes and words that a call may change.
+    pub fn whole(&self) -> u32 {
+        let digest = Digest::new().words(&self.state).words(&self.rows);
+        digest.bytes(&self.log).value
+    }
+
+    pub fn say_digest(&self, rt: &impl Print) -> io::Result<()> {
+        let whole = self.whole();
+        print!(rt; "digest:")?;
+        match session::digest(self.session, self.lent()) {
+            Ok(value) => print!(rt; " {value:08x}")?,
+            Err(why) => say::refused(rt, why)?,
+        }
+        println!(rt; ", all lent {whole:08x}")
+    }
+
+    pub fn say_shown(&self, rt: &impl Print, carrier: u32) -> io::Result<()> {
+        print!(rt; "shown {carrier}:")?;
+        match session::shown(self.session, carrier, self.lent()) {
+            Ok(place) => say::place(rt, place)?,
+            Err(why) => say::refused(rt, why)?,
+        }
+        println!(rt)
+    }
 }

@@ -1,37 +1,44 @@
-// What is written: texts, numbers, words of a clock and of a state, bit patterns.
+// What is written: titles, answers, words of a clock and of a state, bit patterns.
+use basis::Refusal;
 use clock::Clock;
+use record::Record;
+use session::{Delivered, Session};
 use shown::Place;
 use std::io;
 
-pub fn text(rt: &impl Print, bytes: &[u8]) -> io::Result<()> {
-    rt.write_all(bytes)
+pub fn title(rt: &impl Print, title: &str) -> io::Result<()> {
+    println!(rt; "# {title}")
 }
 
-pub fn title(rt: &impl Print, bytes: &[u8]) -> io::Result<()> {
-    text(rt, b"# ")?;
-    text(rt, bytes)?;
-    text(rt, b"\n")
-}
-
-pub fn number(rt: &impl Print, n: u64) -> io::Result<()> {
-    print!(rt; " {n}")
-}
-
-pub fn named(rt: &impl Print, name: &[u8], n: u64) -> io::Result<()> {
-    text(rt, name)?;
-    number(rt, n)
-}
-
-pub fn hex(rt: &impl Print, name: &[u8], value: u32) -> io::Result<()> {
-    text(rt, name)?;
-    print!(rt; " {value:08x}")
+pub fn record(rt: &impl Print, r: Record) -> io::Result<()> {
+    print!(rt; "deliver {} {} {}", r.step, r.carrier, r.lever)
 }
 
 // What a reading changes beside the last reading.
 pub fn words(rt: &impl Print, clock: Clock) -> io::Result<()> {
-    named(rt, b" steps", clock.steps)?;
-    named(rt, b" remainder", clock.remainder)?;
-    named(rt, b" cut", clock.cut)
+    print!(rt;
+        " steps {} remainder {} cut {}",
+        clock.steps, clock.remainder, clock.cut
+    )
+}
+
+// What opening and a reading answer.
+pub fn running(rt: &impl Print, answer: Result<Session, Refusal>) -> io::Result<()> {
+    print!(rt; ":")?;
+    match answer {
+        Ok(session) => words(rt, session.clock),
+        Err(why) => refused(rt, why),
+    }
+}
+
+// What a delivery answers.
+pub fn delivered(rt: &impl Print, answer: Result<Delivered, Refusal>) -> io::Result<()> {
+    print!(rt; ":")?;
+    match answer {
+        Ok(Delivered::Taken(session)) => print!(rt; " TAKEN, held {}", session.held),
+        Ok(Delivered::Held(session)) => print!(rt; " HELD, held {}", session.held),
+        Err(why) => refused(rt, why),
+    }
 }
 
 // The words of a state.
@@ -42,34 +49,26 @@ pub fn state(rt: &impl Print, words: &[i32]) -> io::Result<()> {
     Ok(())
 }
 
-// The bit patterns of a place.
+// The bit patterns of a place; nothing for a NaN, which no shown place has.
 pub fn place(rt: &impl Print, at: Place) -> io::Result<()> {
-    let x = at.x;
-    let y = at.y;
-    text(rt, b" ")?;
-    pattern(rt, x)?;
-    text(rt, b" ")?;
-    pattern(rt, y)
-}
-
-// Nothing for a NaN, which no shown place has.
-fn pattern(rt: &impl Print, x: f64) -> io::Result<()> {
-    if x == x {
-        let bits = f64::to_bits(x);
-        print!(rt; "{bits:016x}")?;
+    for z in [at.x, at.y] {
+        print!(rt; " ")?;
+        if !z.is_nan() {
+            print!(rt; "{:016x}", z.to_bits())?;
+        }
     }
     Ok(())
 }
 
 // A refusal by its number in document 01's table.
-pub fn refused(rt: &impl Print, number: u8) -> io::Result<()> {
-    named(rt, b" refused", number as u64)
+pub fn refused(rt: &impl Print, why: Refusal) -> io::Result<()> {
+    print!(rt; " refused {why}")
 }
 
 // The end of a line: whether the lent bytes and words have the digest that they had.
 pub fn ended(rt: &impl Print, before: u32, after: u32) -> io::Result<()> {
     if before == after {
-        text(rt, b", nothing changed")?;
+        print!(rt; ", nothing changed")?;
     }
-    text(rt, b"\n")
+    println!(rt)
 }

@@ -5,7 +5,7 @@
 
 use clock::Clock;
 use std::io;
-use test_desk::{Desk, say};
+use test_desk::{Practised, say};
 
 fn main(rt: HostRuntime) -> io::Result<()> {
     grouped(&rt)?;
@@ -18,16 +18,16 @@ fn main(rt: HostRuntime) -> io::Result<()> {
 fn grouped(rt: &impl Print) -> io::Result<()> {
     say::title(
         rt,
-        b"readings 0, 7000, 14000, 21000 do as 0, 21000; an equal one makes no step",
+        "readings 0, 7000, 14000, 21000 do as 0, 21000; an equal one makes no step",
     )?;
-    let many = Desk::open(rt, 0)?
+    let many = Practised::open(rt, 0)?
         .deliver(rt, 0, 0, 1)?
         .reading(rt, 7_000)?
         .reading(rt, 14_000)?;
     let all = many.reading(rt, 21_000)?.reading(rt, 21_000)?;
     all.digest(rt)?;
     all.shown(rt, 0)?;
-    let one = Desk::open(rt, 0)?
+    let one = Practised::open(rt, 0)?
         .deliver(rt, 0, 0, 1)?
         .reading(rt, 21_000)?;
     one.digest(rt)?;
@@ -37,21 +37,21 @@ fn grouped(rt: &impl Print) -> io::Result<()> {
 fn cut(rt: &impl Print) -> io::Result<()> {
     say::title(
         rt,
-        b"what a gap has above 250000 is cut, and nothing of the remainder",
+        "what a gap has above 250000 is cut, and nothing of the remainder",
     )?;
-    let k = Desk::open(rt, 1_000)?
+    let k = Practised::open(rt, 1_000)?
         .reading(rt, 251_001)?
         .reading(rt, 501_001)?;
     k.reading(rt, 18_446_744_073_709_551_615)?.digest(rt)?;
-    Desk::open(rt, 0)?
+    Practised::open(rt, 0)?
         .reading(rt, 19_999)?
         .reading(rt, 269_999)?
         .digest(rt)
 }
 
 fn backward(rt: &impl Print) -> io::Result<()> {
-    say::title(rt, b"a reading below the last")?;
-    let k = Desk::open(rt, 5_000)?
+    say::title(rt, "a reading below the last")?;
+    let k = Practised::open(rt, 5_000)?
         .deliver(rt, 0, 0, 1)?
         .reading(rt, 255_000)?;
     k.digest(rt)?;
@@ -62,7 +62,7 @@ fn backward(rt: &impl Print) -> io::Result<()> {
 fn end(rt: &impl Print) -> io::Result<()> {
     say::title(
         rt,
-        b"179990 steps made: eleven due are refused whole, ten are made",
+        "179990 steps made: eleven due are refused whole, ten are made",
     )?;
     let clock = Clock {
         first: 0,
@@ -71,7 +71,7 @@ fn end(rt: &impl Print) -> io::Result<()> {
         cut: 0,
         steps: 179_990,
     };
-    let k = Desk::open(rt, 0)?
+    let k = Practised::open(rt, 0)?
         .deliver(rt, 179_995, 0, 2)?
         .with_clock(clock);
     k.digest(rt)?;
@@ -87,9 +87,9 @@ fn end(rt: &impl Print) -> io::Result<()> {
 fn between(rt: &impl Print) -> io::Result<()> {
     say::title(
         rt,
-        b"p 12, c 36, remainder 10000: shown 24.0; p where the remainder is 0 or n is 0",
+        "p 12, c 36, remainder 10000: shown 24.0; p where the remainder is 0 or n is 0",
     )?;
-    let k = Desk::open(rt, 0)?.deliver(rt, 0, 0, 1)?;
+    let k = Practised::open(rt, 0)?.deliver(rt, 0, 0, 1)?;
     k.shown(rt, 0)?;
     let k = k.reading(rt, 10_000)?;
     k.shown(rt, 0)?;

@@ -2,12 +2,11 @@
 -- require.
 use Prim.Native.Nat.{ℕ, ◌*◌, ◌≤◌, ◌<◌}
 use mathlib.Core.Path.{◌≡◌, refl}
-use mathlib.Core.Bool.{true, false}
+use mathlib.Core.Bool.{true}
 use mathlib.Core.List.{List}
 use mathlib.Core.Logic.Iff
 use mathlib.Core.Logic.{◌↔◌}
 use native.Mathlib.Omega.{arith}
-use borrow.Author.Tests.{lt-leb}
 use lib.IntN.{ℤ, pos, negsuc}
 use lib.ListN.{get_or, length}
 use Rattle.basis.specs.Numbers.{most_carriers}
@@ -19,7 +18,7 @@ use Rattle.yard.specs.Free.{free}
 use Rattle.yard.specs.Rule9.{ranges_hold, cells_hold, size_holds, sizes_hold, start_holds}
 use Rattle.yard.specs.Rule9.{starts_hold}
 use Rattle.yard.specs.Facts.{InRange, CellsValid, FromTo, SizesValid, StartsFree}
-use Rattle.yard.proofs.Every.{passes, one_fails, each}
+use Rattle.yard.proofs.Every.{passes, each}
 use Rattle.yard.proofs.Squares.{free_at}
 
 says_from_one : (n most : ℕ) → (from_one n most ≡ true) ↔ ((1 ≤ n) × (n ≤ most))
@@ -48,12 +47,6 @@ ranges yard =
 pub cells : (cells : List ℕ) → (cells_hold cells ≡ true) ↔ CellsValid cells
 unfolding cells_hold
 cells list = each _ (length list) (λ i. says_le (get_or list i 0) 1)
-
--- One byte above 1 is enough.
-pub byte_fails : (list : List ℕ) (i : ℕ) → i < length list → 1 < get_or list i 0
-    → cells_hold list ≡ false
-unfolding cells_hold
-byte_fails list i l h = one_fails _ (length list) i l (lt-leb (get_or list i 0) 1 h)
 
 pub sizes : (yard : Yard) (boxes : List ℤ) → (sizes_hold yard boxes ≡ true) ↔ SizesValid yard boxes
 unfolding sizes_hold size_holds

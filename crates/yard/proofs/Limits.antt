@@ -15,6 +15,7 @@ use Rattle.yard.specs.declared.levers.Push.{Push}
 use Rattle.yard.specs.Levers.{along, push, pushes, push_of, cut_speed, new_speed}
 use Rattle.yard.proofs.Cases.{of_cond}
 use Rattle.yard.proofs.Brake.{abs_brake}
+use Rattle.yard.proofs.Signed.{words}
 
 -- A test that every entry of a list passes, as does what stands for a missing one, at any index.
 abbrev all : {A : Type 0} → (A → Bool) → List A → Bool
@@ -43,6 +44,9 @@ push_within X lever =
     leb-true _ 12 (and_left _ (leb (nat_abs (push_of lever).y) 12) (table lever))
 push_within Y lever =
     leb-true _ 12 (and_right (leb (nat_abs (push_of lever).x) 12) _ (table lever))
+
+-- For a new speed.
+pub ruleset speeds = (words, push_within)
 
 -- A speed that is cut is within 200.
 cut_within : (z : ℤ) → nat_abs (cut_speed z) ≤ 200

@@ -8,8 +8,7 @@ use native.Mathlib.Omega.{arith}
 use borrow.Author.Tests.{leb-true, le-leb}
 use lib.Dec.{leb}
 use lib.IntN.{ℤ, pos, negsuc, nat_abs}
-use Rattle.basis.specs.declared.HeldLever.{HeldLever}
-use Rattle.basis.specs.declared.HeldLever.TheVariants.{Nothing, Lever}
+use Rattle.std.specs.Prelude.{Option, None, Some}
 use Rattle.basis.proofs.Tests.{and_both, and_left, says_le, says_four}
 use Rattle.yard.specs.declared.carrier.Carrier.{Carrier}
 use Rattle.yard.specs.declared.levers.Axis.TheVariants.{X, Y}
@@ -19,6 +18,7 @@ use Rattle.yard.specs.Slide.{slide}
 use Rattle.yard.specs.Step.{lever_after, LeverFits, at_rest, step, sound_carrier}
 use Rattle.yard.specs.Facts.{FromTo}
 use Rattle.yard.proofs.Fits.{from_to}
+use Rattle.yard.proofs.Signed.{words}
 use Rattle.yard.proofs.Limits.{speed_within}
 use Rattle.yard.proofs.Walk.{slide_within, slide_x_free, slide_y_free}
 
@@ -32,7 +32,7 @@ either_way b (negsuc n) = (
   λ h. and_both (le-leb n b (omega arith)) refl,
 )
 
-pub from_zero : (b : ℕ) (z : ℤ) → between (pos 0) z (pos b) ≡ true → nat_abs z ≤ b
+from_zero : (b : ℕ) (z : ℤ) → between (pos 0) z (pos b) ≡ true → nat_abs z ≤ b
 from_zero b z e = let (n, same, low, high) = (from_to 0 b z).0 e in rw same high
 
 zero_to : (b n : ℕ) → n ≤ b → between (pos 0) (pos n) (pos b) ≡ true
@@ -72,14 +72,14 @@ module _ (free : ℤ → ℤ → Bool) (carrier : Carrier) where
   of_good g = (lever_decides Iff.rfl).1 (g.here, g.u, g.v, g.lever)
 
 -- Part 1 leaves a lever 0 to 9.
-pub lever_holds : (held : HeldLever) (lever : ℤ) → LeverFits held
+lever_holds : (held : Option ℕ) (lever : ℤ) → LeverFits held
     → between (pos 0) lever (pos 9) ≡ true
     → between (pos 0) (lever_after held lever) (pos 9) ≡ true
-lever_holds Nothing lever h e = e
-lever_holds (Lever moved) lever h e = zero_to 9 moved h
+lever_holds None lever h e = e
+lever_holds (Some moved) lever h e = zero_to 9 moved h
 
 -- A sound carrier stays sound.
-module _ (free : ℤ → ℤ → Bool) (held : HeldLever) (carrier : Carrier) (h : LeverFits held) where
+module _ (free : ℤ → ℤ → Bool) (held : Option ℕ) (carrier : Carrier) (h : LeverFits held) where
   good_step : Good free carrier → Good free (step free held carrier)
   unfolding step
   good_step g =
@@ -101,6 +101,36 @@ module _ (free : ℤ → ℤ → Bool) (held : HeldLever) (carrier : Carrier) (h
       → sound_carrier free (step free held carrier) ≡ true
   step_sound e = of_good free (step free held carrier) (good_step (good_of free carrier e))
 
+-- What the parts of a step rest on, each for the next.
+pub record Stepped (free : ℤ → ℤ → Bool) (lever : ℕ) (carrier : Carrier) : Type 0 where
+  pub position : lever ≤ 9
+  pub old_u : nat_abs carrier.u ≤ 200
+  pub old_v : nat_abs carrier.v ≤ 200
+  pub new_u : nat_abs (new_speed X lever carrier.u) ≤ 200
+  pub new_v : nat_abs (new_speed Y lever carrier.v) ≤ 200
+  pub here : free carrier.x carrier.y ≡ true
+  pub there : free (slide free X (new_speed X lever carrier.u) carrier.x carrier.y).at carrier.y
+      ≡ true
+
+pub stepped : (free : ℤ → ℤ → Bool) (held : Option ℕ) (carrier : Carrier) → LeverFits held
+    → sound_carrier free carrier ≡ true
+    → Stepped free (nat_abs (lever_after held carrier.lever)) carrier
+stepped free held carrier h e =
+    let good = good_of free carrier e in
+    let lever = lever_after held carrier.lever in
+    let u = new_speed X (nat_abs lever) carrier.u in
+    record {
+      position = from_zero 9 lever (lever_holds held carrier.lever h good.lever);
+      old_u = good.u;
+      old_v = good.v;
+      new_u = speed_within X (nat_abs lever) carrier.u good.u;
+      new_v = speed_within Y (nat_abs lever) carrier.v good.v;
+      here = good.here;
+      there = slide_x_free free u carrier.x carrier.y good.here;
+    }
+
+pub ruleset steps = (words, stepped)
+
 -- A carrier at rest is sound where it is free.
 pub rest_sound : (free : ℤ → ℤ → Bool) (x y : ℤ) → free x y ≡ true
     → sound_carrier free (at_rest x y) ≡ true
@@ -110,6 +140,6 @@ rest_sound free x y h =
 
 -- Which places are free is all that a step asks.
 pub step_same : (free other : ℤ → ℤ → Bool) → ((x y : ℤ) → free x y ≡ other x y)
-    → (held : HeldLever) (carrier : Carrier) → step free held carrier ≡ step other held carrier
+    → (held : Option ℕ) (carrier : Carrier) → step free held carrier ≡ step other held carrier
 step_same free other h held carrier =
     ap (λ f. step f held carrier) (fun_ext (λ x. fun_ext (h x)))

@@ -1,7 +1,7 @@
 -- Laws of `free`: the covered cells decide, and they are those of the box's unit squares.
 use Prim.Native.Nat.{ℕ, ◌+◌, ◌*◌, ◌/◌, ◌<◌, ◌≤◌, max, min}
 use mathlib.Core.Path.{◌≡◌, refl, ◌∙◌}
-use mathlib.Core.Bool.{true, false, ◌&&◌}
+use mathlib.Core.Bool.{true, false, not, ◌&&◌}
 use mathlib.Core.List.{List}
 use mathlib.Core.Logic.{⊎_elim, ◌↔◌, ◌≢◌}
 use native.Mathlib.Omega.{arith}
@@ -10,12 +10,15 @@ use lib.Dec.{leb}
 use lib.IntN.{ℤ, pos, negsuc, nat_abs}
 use lib.ListN.{get_or}
 use lib.Signed.{lt_z}
+use Rattle.std.specs.Prelude.{Option, None, Some, is_some}
 use Rattle.basis.proofs.Tests.{never, and_both, and_left, and_right, not_left, not_right}
 use Rattle.yard.specs.declared.world.Yard.{Yard}
 use Rattle.yard.specs.declared.world.Size.{Size}
+use Rattle.yard.specs.declared.place.Block.{Block}
+use Rattle.yard.specs.declared.place.Cell.{Cell}
 use Rattle.yard.specs.Boxes.{CellsFit, SizeFits}
 use Rattle.yard.specs.Free.{wall, share, covers, no_wall, free}
-use Rattle.yard.specs.Search.{InBlock, Open, block_of}
+use Rattle.yard.specs.Search.{InBlock, Open, FirstInBlock, Finds, block_of}
 use Rattle.yard.specs.Facts.{Clear, FreeAt}
 use Rattle.yard.proofs.Cases.{either, not_both, both_not}
 use Rattle.yard.proofs.Every.{all_pass, passes}
@@ -110,17 +113,26 @@ module _ (yard : Yard) (cells : List ℕ) (size : Size) (x y : ℕ) where
           le-leb (y + size.h) (256 * yard.h) bottom,
         )
 
-    pub none_met : Open yard cells (block_of size x y)
+    none_met : Open yard cells (block_of size x y)
         → free yard cells size (pos x) (pos y) ≡ true
     none_met h = within ∙ no_wall_is (λ column row e. h column row (covered size x y column row e))
 
-    pub wall_met : SizeFits size → (column row : ℕ) → InBlock (block_of size x y) column row
+    wall_met : SizeFits size → (column row : ℕ) → InBlock (block_of size x y) column row
         → wall yard cells column row ≡ true → free yard cells size (pos x) (pos y) ≡ false
     wall_met s column row h e =
         let under = in_block size x y s column row h in
         within
         ∙ ⊎_elim (λ p. never e (no_wall_at p column row (omega arith) (omega arith) under)) (λ p. p)
         (either (no_wall yard cells size x y))
+
+    -- What the search of the block's cells met decides.
+    pub searched : SizeFits size → (block : Block) → block ≡ block_of size x y
+        → (met : Option Cell) → Finds yard cells block met
+        → free yard cells size (pos x) (pos y) ≡ not (is_some met)
+    searched s block e None f = none_met (rw e at f)
+    searched s block e (Some cell) f =
+        let here : FirstInBlock yard cells (block_of size x y) cell.column cell.row = rw e at f in
+        wall_met s cell.column cell.row here.inside here.there
 
   -- A cell is no wall where its byte isn't 1.
   no_byte : (column row : ℕ)
@@ -186,3 +198,8 @@ module _ (yard : Yard) (cells : List ℕ) (size : Size) where
   near (pos x) (pos y) fit e = let h = inside yard cells size x y e in (omega arith, omega arith)
   near (pos x) (negsuc y) fit e = never e (above (pos x) y)
   near (negsuc x) y fit e = never e (left x y)
+
+-- What decides at a place that is not negative, and at any place.
+pub ruleset edges = (past_right, past_bottom, searched)
+
+pub ruleset signs = (below_left, below_above)

@@ -1,14 +1,13 @@
 -- Laws of the move along one axis, for any `free`.
 use Prim.Native.Nat.{ℕ, zero, suc, ◌+◌, ◌-◌, ◌<◌, ◌≤◌}
-use mathlib.Core.Path.{◌≡◌, refl, sym, ap, ◌∙◌}
+use mathlib.Core.Path.{◌≡◌, sym, ap, ◌∙◌}
 use mathlib.Core.Bool.{Bool, true, false}
 use mathlib.Core.Logic.{⊎_elim}
 use native.Mathlib.Nat.{eq-or-lt_of_le}
 use native.Mathlib.Omega.{arith}
-use borrow.Author.Tests.{ltb-true}
 use lib.Dec.{ltb}
-use lib.IntN.{ℤ, pos, negsuc, nat_abs, ◌+ℤ◌, ◌-ℤ◌, +ℤ_idr}
-use lib.Signed.{lt_z}
+use lib.IntN.{ℤ, pos, negsuc, nat_abs, +ℤ_idr}
+use Rattle.std.specs.Prelude.{Option, None, Some, MatchOption, unwrap_or}
 use Rattle.basis.proofs.Tests.{never}
 use Rattle.yard.specs.declared.levers.Axis.{Axis}
 use Rattle.yard.specs.declared.levers.Axis.TheVariants.{X, Y}
@@ -19,18 +18,6 @@ use Rattle.yard.proofs.Cases.{of_cond}
 use Rattle.yard.proofs.Signed.{abs_add, abs_sub}
 
 -- The place so many units on.
-pub toward_less : (speed from : ℤ) (units : ℕ) → lt_z speed (pos 0) ≡ true
-    → from -ℤ pos units ≡ toward speed from units
-unfolding toward
-toward_less (pos n) from units e = absurd (omega (arith, ltb-true n 0 e))
-toward_less (negsuc n) from units e = refl
-
-pub toward_more : (speed from : ℤ) (units : ℕ) → lt_z speed (pos 0) ≡ false
-    → from +ℤ pos units ≡ toward speed from units
-unfolding toward
-toward_more (pos n) from units e = refl
-toward_more (negsuc n) from units e = never refl e
-
 pub toward_abs : (speed from : ℤ) (units : ℕ)
     → nat_abs (toward speed from units) ≤ nat_abs from + units
 unfolding toward
@@ -42,21 +29,7 @@ unfolding toward
 toward_here (pos n) from = +ℤ_idr from
 toward_here (negsuc n) from = +ℤ_idr from
 
--- One turn of the walk: a clear unit is moved, a unit that isn't ends it, and so does the last one.
 module _ (clear : ℕ → Bool) where
-  pub walk_on : (k n : ℕ) → k < n → clear (k + 1) ≡ true
-      → walk clear k (n - k) ≡ walk clear (k + 1) (n - (k + 1))
-  unfolding walk
-  walk_on k n l e = let more : n - k ≡ suc (n - (k + 1)) = omega arith in rw (more, e)
-
-  pub walk_stop : (k n : ℕ) → k < n → clear (k + 1) ≡ false → walk clear k (n - k) ≡ k
-  unfolding walk
-  walk_stop k n l e = let more : n - k ≡ suc (n - (k + 1)) = omega arith in rw (more, e)
-
-  pub walk_end : (k n : ℕ) → n ≤ k → walk clear k (n - k) ≡ k
-  unfolding walk
-  walk_end k n l = let more : n - k ≡ 0 = omega arith in rw more
-
   -- The walk ends within its units, at a place that is clear where its start is.
   walk_most : (k n : ℕ) → walk clear k n ≤ k + n
   unfolding walk
@@ -123,6 +96,34 @@ module _ (free : ℤ → ℤ → Bool) (axis : Axis) (speed x y : ℤ) where
 
   pub only : (units : ℕ) → Walked free axis speed x y units → units ≡ distance free axis speed x y
   only units w = omega (arith, not_less w walked, not_less walked w)
+
+  -- A search for the last unit before one that is not clear.
+  pub searched : (most : ℕ) → most ≡ nat_abs speed → (met : Option ℕ)
+      → MatchOption met
+      ((k : ℕ) → 0 ≤ k → k < most → clear_on free axis speed x y (k + 1) ≡ true)
+      (λ units.
+      (0 ≤ units) × (units < most)
+      × (clear_on free axis speed x y (units + 1) ≡ false)
+      × ((k : ℕ) → 0 ≤ k → k < units → clear_on free axis speed x y (k + 1) ≡ true))
+      → unwrap_or met most ≡ distance free axis speed x y
+  searched most e None h =
+      only most
+      (record {
+        most = omega arith;
+        passed = λ k l m.
+            let same : k - 1 + 1 ≡ k = omega arith in
+            rw same at (h (k - 1) (omega arith) (omega arith));
+        stopped = λ l. absurd (omega arith);
+      })
+  searched most e (Some units) (low, fewer, blocked, clear) =
+      only units
+      (record {
+        most = omega arith;
+        passed = λ k l m.
+            let same : k - 1 + 1 ≡ k = omega arith in
+            rw same at (clear (k - 1) (omega arith) (omega arith));
+        stopped = λ l. blocked;
+      })
 
 -- A move from a place that is free ends at one.
 pub slide_x_free : (free : ℤ → ℤ → Bool) (speed x y : ℤ) → free x y ≡ true

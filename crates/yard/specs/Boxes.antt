@@ -3,10 +3,19 @@ use Rattle.std.specs.Prelude.{ℕ, ◌+◌, ◌*◌, ◌≤◌, ◌≡◌, List,
 use Rattle.basis.specs.Numbers.{most_carriers}
 use Rattle.yard.specs.declared.world.Yard.{Yard}
 use Rattle.yard.specs.declared.world.Size.{Size}
+use Rattle.yard.specs.declared.world.Word.{Word}
+use Rattle.yard.specs.declared.world.Word.TheVariants.{X, Y, W, H}
 
 -- 'for each carrier x, y, w, h in that order as i32 words': word 0 to 3 of carrier i.
 abbrev pub word : List ℤ → ℕ → ℕ → ℤ
 word boxes i k = get_or boxes (4 * i + k) (pos 0)
+
+-- The number of a word: 'x, y, w, h in that order'.
+abbrev pub word_number : Word → ℕ
+word_number X = 0
+word_number Y = 1
+word_number W = 2
+word_number H = 3
 
 -- The size of carrier i.
 unfoldable pub size_of : List ℤ → ℕ → Size

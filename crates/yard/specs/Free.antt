@@ -2,6 +2,7 @@
 use Rattle.std.specs.Prelude.{ℕ, ◌+◌, ◌*◌, max, min, Bool, false, not, ◌&&◌, List, leb, ltb, eqb, ℤ, pos, negsuc, get_or}
 use Rattle.yard.specs.declared.world.Yard.{Yard}
 use Rattle.yard.specs.declared.world.Size.{Size}
+use Rattle.yard.specs.declared.world.Ground.{Ground}
 use Rattle.yard.specs.Ranges.{every}
 
 -- '0 is open, 1 is wall': the cell byte at an index.
@@ -38,3 +39,7 @@ free yard cells size (pos x) (pos y) =
     && no_wall yard cells size x y
 free yard cells size (pos x) (negsuc y) = false
 free yard cells size (negsuc x) y = false
+
+-- Where the carrier is free that moves here: on these cells, with this size.
+abbrev pub free_on : Ground → ℤ → ℤ → Bool
+free_on here = free here.yard here.cells.now here.size

@@ -1,18 +1,24 @@
 -- What the search of the covered cells answers: for contracts of parts only, no promise of its own.
-use Rattle.std.specs.Prelude.{ℕ, ◌+◌, ◌-◌, ◌/◌, ◌≤◌, ◌<◌, ◌≡◌, true, false, List}
+use Rattle.std.specs.Prelude.{ℕ, ◌+◌, ◌-◌, ◌*◌, ◌/◌, ◌≤◌, ◌<◌, ◌≡◌, true, false, Option, None, Some, MatchOption, List, length, take, drop}
 use Rattle.yard.specs.declared.world.Yard.{Yard}
 use Rattle.yard.specs.declared.world.Size.{Size}
 use Rattle.yard.specs.declared.place.Block.{Block}
-use Rattle.yard.specs.declared.place.Met.{Met}
-use Rattle.yard.specs.declared.place.Met.TheVariants.{Nothing, Wall}
+use Rattle.yard.specs.declared.place.Cell.{Cell}
 use Rattle.yard.specs.Free.{wall_at, wall}
 
--- The first wall among the cells from..to, or to.
-pub record FirstWall (cells : List ℕ) (from to found : ℕ) : Type 0 where
-  pub low : from ≤ found
-  pub high : found ≤ to
-  pub earlier : (i : ℕ) → i < found → from ≤ i → wall_at cells i ≡ false
-  pub there : found < to → wall_at cells found ≡ true
+-- None of the first n cells is a wall.
+abbrev pub NoWall : List ℕ → ℕ → Type 0
+NoWall cells n = (i : ℕ) → i < n → wall_at cells i ≡ false
+
+-- What a search of cells answers: the first wall among them.
+abbrev pub FirstWall : List ℕ → Option ℕ → Type 0
+FirstWall cells found =
+    MatchOption found (NoWall cells (length cells))
+    (λ i. (i < length cells) × (wall_at cells i ≡ true) × NoWall cells i)
+
+-- The cells of a row.
+abbrev pub row_of : Yard → List ℕ → ℕ → List ℕ
+row_of yard cells row = take yard.w (drop (row * yard.w) cells)
 
 -- The cells under the box at (x, y).
 abbrev pub block_of : Size → ℕ → ℕ → Block
@@ -45,6 +51,6 @@ pub record FirstInBlock (yard : Yard) (cells : List ℕ) (block : Block) (column
   pub columns : (c : ℕ) → InBlock block c row → c < column → wall yard cells c row ≡ false
 
 -- What a search of the block answers.
-abbrev pub Finds : Yard → List ℕ → Block → Met → Type 0
-Finds yard cells block Nothing = Open yard cells block
-Finds yard cells block (Wall column row) = FirstInBlock yard cells block column row
+abbrev pub Finds : Yard → List ℕ → Block → Option Cell → Type 0
+Finds yard cells block None = Open yard cells block
+Finds yard cells block (Some cell) = FirstInBlock yard cells block cell.column cell.row

@@ -1,7 +1,6 @@
 -- What is claimed of the yard. proofs/Statements.antt proves each record whole.
-use Rattle.std.specs.Prelude.{ℕ, ◌+◌, ◌≤◌, ◌<◌, ◌≡◌, ◌↔◌, Bool, true, false, List, ℤ, pos, nat_abs, length, ◌≤ℤ◌}
+use Rattle.std.specs.Prelude.{ℕ, ◌+◌, ◌≤◌, ◌<◌, ◌≡◌, ◌↔◌, Bool, true, false, Option, List, ℤ, pos, nat_abs, length, ◌≤ℤ◌}
 use Rattle.basis.specs.Order.{Determines}
-use Rattle.basis.specs.declared.HeldLever.{HeldLever}
 use Rattle.yard.specs.declared.world.Yard.{Yard}
 use Rattle.yard.specs.declared.world.Size.{Size}
 use Rattle.yard.specs.declared.levers.Axis.{Axis}
@@ -106,8 +105,8 @@ pub record Step : Type 0 where
   pub rest : (free : ℤ → ℤ → Bool) (x y : ℤ) → free x y ≡ true
       → sound_carrier free (at_rest x y) ≡ true
   -- A sound carrier stays sound: free, speeds within 200 either way, lever 0 to 9.
-  pub stays : (free : ℤ → ℤ → Bool) (held : HeldLever) (carrier : Carrier) → LeverFits held
+  pub stays : (free : ℤ → ℤ → Bool) (held : Option ℕ) (carrier : Carrier) → LeverFits held
       → sound_carrier free carrier ≡ true → sound_carrier free (step free held carrier) ≡ true
   -- Which places are free is all that a step asks of the yard.
   pub same : (free other : ℤ → ℤ → Bool) → ((x y : ℤ) → free x y ≡ other x y)
-      → (held : HeldLever) (carrier : Carrier) → step free held carrier ≡ step other held carrier
+      → (held : Option ℕ) (carrier : Carrier) → step free held carrier ≡ step other held carrier

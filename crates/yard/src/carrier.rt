@@ -1,15 +1,11 @@
 // 'One step' of one carrier, parts 1 to 4, and the state rule.
 ghost use Rattle.std.specs.Prelude.{◌≡◌, true};
-ghost use Rattle.yard.specs.Boxes.{CellsFit, SizeFits};
-ghost use Rattle.yard.specs.Free.{free};
+ghost use Rattle.yard.specs.Free.{free_on};
 ghost use Rattle.yard.specs.Step.{lever_after, LeverFits, step, sound_carrier};
 
 use super::levers::{Axis, Speed, new_speed};
-use super::place::is_free;
-use super::slide::slide;
 use super::words::{is_between, magnitude};
-use super::world::{Size, Yard};
-use basis::HeldLever;
+use super::world::Ground;
 
 // The five state words of a carrier.
 #[derive(Clone, Copy)]
@@ -22,66 +18,43 @@ pub struct Carrier {
 }
 
 // Part 1.
-fn lever_after(held: HeldLever, lever: i32) -> i32
+fn lever_after(held: Option<u8>, lever: i32) -> i32
     ensures part { result ≡ lever_after held lever }
 {
-    match held {
-        HeldLever::Nothing => lever,
-        HeldLever::Lever(moved) => moved as i32,
-    }
+    held.map_or(lever, i32::from)
 }
 
-// One step of a sound carrier.
-pub fn step(yard: Yard, cells: &[u8], size: Size, held: HeldLever, carrier: Carrier) -> Carrier
-    requires laid { CellsFit yard cells.now }
-    requires sized { SizeFits size }
-    requires table { LeverFits held }
-    requires sound { sound_carrier (free yard cells.now size) carrier ≡ true }
-    ensures stepped { result ≡ step (free yard cells.now size) held carrier }
-{
-    let x = carrier.x;
-    let y = carrier.y;
-    let old_u = carrier.u;
-    let old_v = carrier.v;
-    let old_lever = carrier.lever;
-    let lever = lever_after(held, old_lever);
-    let position = magnitude(lever);
-    let u = new_speed(Axis::X, position, old_u);
-    let v = new_speed(Axis::Y, position, old_v);
-    let along_x = slide(yard, cells, size, Axis::X, u, x, y);
-    let new_x = along_x.at;
-    let kept_u = along_x.speed;
-    let along_y = slide(yard, cells, size, Axis::Y, v, new_x, y);
-    let new_y = along_y.at;
-    let kept_v = along_y.speed;
-    Carrier {
-        x: new_x,
-        y: new_y,
-        u: kept_u,
-        v: kept_v,
-        lever,
+impl Ground<'_> {
+    // One step of a sound carrier.
+    #[tactic(auto, using(crate::proofs::Soundness::steps), unfolding(crate::specs::Step::step))]
+    pub fn step(&self, held: Option<u8>, carrier: Carrier) -> Carrier
+        requires table { LeverFits held }
+        requires sound { sound_carrier (free_on self.now) carrier ≡ true }
+        ensures stepped { result ≡ step (free_on self.now) held carrier }
+    {
+        let lever = lever_after(held, carrier.lever);
+        let position = magnitude(lever);
+        let u = new_speed(Axis::X, position, carrier.u);
+        let v = new_speed(Axis::Y, position, carrier.v);
+        let along_x = self.slide(Axis::X, u, carrier.x, carrier.y);
+        let along_y = self.slide(Axis::Y, v, along_x.at, carrier.y);
+        Carrier {
+            x: along_x.at,
+            y: along_y.at,
+            u: along_x.speed,
+            v: along_y.speed,
+            lever,
+        }
     }
-}
 
-// The state rule, for any words.
-pub fn is_sound(yard: Yard, cells: &[u8], size: Size, carrier: Carrier) -> bool
-    requires laid { CellsFit yard cells.now }
-    requires sized { SizeFits size }
-    ensures rule { result ≡ sound_carrier (free yard cells.now size) carrier }
-{
-    let x = carrier.x;
-    let y = carrier.y;
-    let u = carrier.u;
-    let v = carrier.v;
-    let lever = carrier.lever;
-    if !is_free(yard, cells, size, x, y) {
-        return false;
+    // The state rule, for any words.
+    #[tactic(auto, unfolding(crate::specs::Step::sound_carrier))]
+    pub fn is_sound(&self, carrier: Carrier) -> bool
+        ensures rule { result ≡ sound_carrier (free_on self.now) carrier }
+    {
+        self.is_free(carrier.x, carrier.y)
+            && is_between(Speed::LEAST, carrier.u, Speed::MOST)
+            && is_between(Speed::LEAST, carrier.v, Speed::MOST)
+            && is_between(0, carrier.lever, i32::from(basis::Limit::LEVER))
     }
-    if !is_between(Speed::LEAST, u, Speed::MOST) {
-        return false;
-    }
-    if !is_between(Speed::LEAST, v, Speed::MOST) {
-        return false;
-    }
-    is_between(0, lever, basis::Limit::LEVER as i32)
 }

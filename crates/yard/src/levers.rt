@@ -53,6 +53,7 @@ impl Speed {
 }
 
 // The table at levers 0 to 8.
+#[tactic(auto, unfolding(crate::specs::Levers::push_of))]
 fn push_of(lever: usize) -> Push
     requires table { lever < 9 }
     ensures pair { result ≡ push_of lever }
@@ -60,45 +61,34 @@ fn push_of(lever: usize) -> Push
     PUSHES[lever]
 }
 
-// 'old speed plus push, then cut'.
+// 'old speed plus push, then cut'. A speed is a word of the state, any i32 until it is tested: a
+// type for those within 200 would be made and taken apart at every step.
+#[tactic(auto, unfolding(crate::specs::Levers::cut_speed))]
 fn pushed_speed(old: i32, push: i32) -> i32
     requires small { (nat_abs old ≤ 200) × (nat_abs push ≤ 12) }
     ensures cut { result ≡ cut_speed (old +ℤ push) }
 {
-    let speed = old + push;
-    if speed < Speed::LEAST {
-        return Speed::LEAST;
-    }
-    if Speed::MOST < speed {
-        return Speed::MOST;
-    }
-    speed
+    (old + push).clamp(Speed::LEAST, Speed::MOST)
 }
 
 // Lever 9: 'toward zero, and never past it' (02 §2).
+#[tactic(auto, unfolding(crate::specs::Levers::brake))]
 fn brake_speed(old: i32) -> i32
     requires small { nat_abs old ≤ 200 }
     ensures braked { result ≡ brake old }
 {
-    if Speed::BRAKE < old {
-        return old - Speed::BRAKE;
-    }
-    if old < -Speed::BRAKE {
-        return old + Speed::BRAKE;
-    }
-    0
+    old - old.clamp(-Speed::BRAKE, Speed::BRAKE)
 }
 
 // Part 2, along one axis.
+#[tactic(auto, using(crate::proofs::Limits::speeds), unfolding(crate::specs::Levers::new_speed))]
 pub fn new_speed(axis: Axis, lever: usize, old: i32) -> i32
     requires sound { (lever ≤ 9) × (nat_abs old ≤ 200) }
     ensures part { result ≡ new_speed axis lever old }
 {
-    if lever == basis::Limit::LEVER as usize {
+    if lever == usize::from(basis::Limit::LEVER) {
         return brake_speed(old);
     }
     let push = push_of(lever);
-    let x = push.x;
-    let y = push.y;
-    pushed_speed(old, axis.pick(x, y))
+    pushed_speed(old, axis.pick(push.x, push.y))
 }

@@ -11,8 +11,7 @@ mod slide;
 mod words;
 mod world;
 
-pub use carrier::{Carrier, is_sound, step};
-pub use place::is_free;
+pub use carrier::Carrier;
 pub use rule9::{cells_hold, ranges_hold, sizes_hold, starts_hold};
 pub use words::magnitude;
-pub use world::{Size, Yard, word_of};
+pub use world::{Ground, Size, Word, Yard, word_of};

@@ -1,11 +1,9 @@
 // Where a carrier is free: 'no wall cell shares a unit square with it', by the covered cells.
 ghost use Rattle.std.specs.Prelude.{◌≡◌, ◌+◌, ◌*◌, ◌^◌, ◌≤◌, ◌<◌, pos, length};
-ghost use Rattle.yard.specs.Boxes.{CellsFit, SizeFits};
-ghost use Rattle.yard.specs.Free.{free};
-ghost use Rattle.yard.specs.Search.{FirstWall, Finds, block_of};
+ghost use Rattle.yard.specs.Free.{free_on};
+ghost use Rattle.yard.specs.Search.{FirstWall, Finds, row_of, block_of};
 
-use super::words::magnitude;
-use super::world::{Size, Yard};
+use super::world::{Ground, Yard};
 
 // Cells from column left and row top up to, not with, column right and row bottom.
 #[derive(Clone, Copy)]
@@ -16,105 +14,76 @@ pub struct Block {
     pub bottom: usize,
 }
 
-// What a search of a block meets first.
 #[derive(Clone, Copy)]
-pub enum Met {
-    Nothing,
-    Wall { column: usize, row: usize },
+pub struct Cell {
+    pub column: usize,
+    pub row: usize,
 }
 
-// The index of the first wall among the cells from..to, or to.
-fn first_wall(cells: &[u8], from: usize, to: usize) -> usize
-    requires within { (from ≤ to) × (to ≤ length cells.now) }
-    ensures first { FirstWall cells.now from to result }
+// The index of the first wall among these cells.
+fn first_wall(cells: &[u8]) -> Option<usize>
+    ensures first { FirstWall cells.now result }
 {
-    for i in from..to {
-        if cells[i] == 1 {
-            return i;
+    cells.iter().position(|cell| *cell == Yard::WALL)
+}
+
+impl Ground<'_> {
+    fn row(&self, row: usize) -> &[u8]
+        requires row { row < self.now.yard.h }
+        ensures cells { result.now ≡ row_of self.now.yard self.now.cells.now row }
+        ensures long { length result.now ≡ self.now.yard.w }
+    {
+        let w = self.yard.w as usize;
+        &self.cells[row * w..(row + 1) * w]
+    }
+
+    // The first wall of a block: lowest row, then lowest column.
+    fn wall_in(&self, block: Block) -> Option<Cell>
+        requires columns { (block.left ≤ block.right) × (block.right ≤ self.now.yard.w) }
+        requires rows { (block.top ≤ block.bottom) × (block.bottom ≤ self.now.yard.h) }
+        ensures met { Finds self.now.yard self.now.cells.now block result }
+    {
+        for row in block.top..block.bottom {
+            let cells = &self.row(row)[block.left..block.right];
+            if let Some(on) = first_wall(cells) {
+                return Some(Cell {
+                    column: block.left + on,
+                    row,
+                });
+            }
+        }
+        None
+    }
+
+    // The cells that the carrier covers at (x, y).
+    fn block_at(&self, x: usize, y: usize) -> Block
+        requires word { (x ≤ 2 ^ 31) × (y ≤ 2 ^ 31) }
+        ensures covered { result ≡ block_of self.now.size x y }
+    {
+        Block {
+            left: x / Yard::CELL,
+            right: (x + self.size.w - 1) / Yard::CELL + 1,
+            top: y / Yard::CELL,
+            bottom: (y + self.size.h - 1) / Yard::CELL + 1,
         }
     }
-    to
-}
 
-// The index of a row's first cell; the whole row lies in the yard.
-fn row_start(yard: Yard, row: usize) -> usize
-    requires row { (row < yard.h) × (yard.w ≤ 64) × (yard.h ≤ 64) }
-    ensures start { (result ≡ row * yard.w) × (result + yard.w ≤ yard.w * yard.h) }
-{
-    row * yard.w as usize
-}
+    // Free at a place that is not negative.
+    #[tactic(auto, using(crate::proofs::Squares::edges))]
+    fn free_at(&self, x: usize, y: usize) -> bool
+        requires word { (x ≤ 2 ^ 31) × (y ≤ 2 ^ 31) }
+        ensures place { result ≡ free_on self.now (pos x) (pos y) }
+    {
+        x + self.size.w <= Yard::CELL * self.yard.w as usize
+            && y + self.size.h <= Yard::CELL * self.yard.h as usize
+            && self.wall_in(self.block_at(x, y)).is_none()
+    }
 
-// The first wall of a block: lowest row, then lowest column.
-fn wall_in(yard: Yard, cells: &[u8], block: Block) -> Met
-    requires laid { CellsFit yard cells.now }
-    requires columns { (block.left ≤ block.right) × (block.right ≤ yard.w) }
-    requires rows { (block.top ≤ block.bottom) × (block.bottom ≤ yard.h) }
-    ensures met { Finds yard cells.now block result }
-{
-    let left = block.left;
-    let right = block.right;
-    let top = block.top;
-    let bottom = block.bottom;
-    for row in top..bottom {
-        let start = row_start(yard, row);
-        let i = first_wall(cells, start + left, start + right);
-        if i < start + right {
-            return Met::Wall {
-                column: i - start,
-                row,
-            };
-        }
+    // Whether the carrier is free at (x, y), for any words.
+    #[tactic(auto, using(crate::proofs::Squares::signs))]
+    pub fn is_free(&self, x: i32, y: i32) -> bool
+        ensures place { result ≡ free_on self.now x y }
+    {
+        x >= 0 && y >= 0 && self.free_at(x as usize, y as usize)
     }
-    Met::Nothing
-}
-
-// The cells that the box at (x, y) covers.
-fn block_of(size: Size, x: usize, y: usize) -> Block
-    requires sized { SizeFits size }
-    requires word { (x ≤ 2 ^ 31) × (y ≤ 2 ^ 31) }
-    ensures covered { result ≡ block_of size x y }
-{
-    Block {
-        left: x / Yard::CELL,
-        right: (x + size.w - 1) / Yard::CELL + 1,
-        top: y / Yard::CELL,
-        bottom: (y + size.h - 1) / Yard::CELL + 1,
-    }
-}
-
-// Free at a place that is not negative.
-fn free_at(yard: Yard, cells: &[u8], size: Size, x: usize, y: usize) -> bool
-    requires laid { CellsFit yard cells.now }
-    requires sized { SizeFits size }
-    requires word { (x ≤ 2 ^ 31) × (y ≤ 2 ^ 31) }
-    ensures place { result ≡ free yard cells.now size (pos x) (pos y) }
-{
-    let w = size.w;
-    let h = size.h;
-    if x + w > Yard::CELL * yard.w as usize {
-        return false;
-    }
-    if y + h > Yard::CELL * yard.h as usize {
-        return false;
-    }
-    match wall_in(yard, cells, block_of(size, x, y)) {
-        Met::Nothing => true,
-        Met::Wall { column: _, row: _ } => false,
-    }
-}
-
-// Whether the box is free at (x, y), for any words.
-#[tactic(auto, using(crate::proofs::Squares::below_left, crate::proofs::Squares::below_above))]
-pub fn is_free(yard: Yard, cells: &[u8], size: Size, x: i32, y: i32) -> bool
-    requires laid { CellsFit yard cells.now }
-    requires sized { SizeFits size }
-    ensures place { result ≡ free yard cells.now size x y }
-{
-    if x < 0 {
-        return false;
-    }
-    if y < 0 {
-        return false;
-    }
-    free_at(yard, cells, size, magnitude(x), magnitude(y))
 }

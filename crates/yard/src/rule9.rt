@@ -5,53 +5,43 @@ ghost use Rattle.yard.specs.Boxes.{CellsFit, BoxesFit, SizeFits, size_of};
 ghost use Rattle.yard.specs.Rule9.{size_holds, sizes_hold, start_holds, starts_hold};
 ghost use Rattle.yard.specs.Says.{RangesHoldSays, CellsHoldSays};
 
-use super::place::is_free;
 use super::words::is_between;
-use super::world::{Size, Yard, word_of};
+use super::world::{Ground, Size, Word, Yard, word_of};
 
 // 1 to most.
 fn is_from_one(n: u32, most: u32) -> bool
     ensures range { result ≡ from_one n most }
 {
-    1 <= n && n <= most
+    (1..=most).contains(&n)
 }
 
 // W, H and B are in range.
+#[tactic(auto, unfolding(crate::specs::Rule9::ranges_hold))]
 pub fn ranges_hold(yard: Yard) -> bool
     ensures ranges { RangesHoldSays yard result }
 {
-    let w = yard.w;
-    let h = yard.h;
-    let b = yard.b;
-    if !is_from_one(w, Yard::SIDE) {
-        return false;
-    }
-    if !is_from_one(h, Yard::SIDE) {
-        return false;
-    }
-    is_from_one(b, basis::Limit::CARRIERS)
+    is_from_one(yard.w, Yard::SIDE)
+        && is_from_one(yard.h, Yard::SIDE)
+        && is_from_one(yard.b, basis::Limit::CARRIERS)
 }
 
+// `room`, below, asks of any words that are long enough: no type says it, since `word_of` and
+// `Size::at` promise the same of worlds that are not tested yet.
+
 // No cell byte is above 1.
-#[tactic(auto, using(crate::proofs::Fits::byte_fails))]
 pub fn cells_hold(cells: &[u8]) -> bool
     ensures cells { CellsHoldSays cells.now result }
 {
-    for i in 0..cells.len() {
-        if cells[i] > 1 {
-            return false;
-        }
-    }
-    true
+    cells.iter().all(|cell| *cell <= Yard::WALL)
 }
 
+#[tactic(auto, unfolding(crate::specs::Rule9::size_holds))]
 fn size_holds(boxes: &[i32], i: usize) -> bool
     requires room { (i < 32) × (4 * i + 4 ≤ length boxes.now) }
     ensures size { result ≡ size_holds boxes.now i }
 {
-    let w = word_of(boxes, i, 2);
-    let h = word_of(boxes, i, 3);
-    is_between(1, w, Size::MOST) && is_between(1, h, Size::MOST)
+    is_between(1, word_of(boxes, i, Word::W), Size::MOST)
+        && is_between(1, word_of(boxes, i, Word::H), Size::MOST)
 }
 
 // Every size is in range.
@@ -59,15 +49,10 @@ pub fn sizes_hold(yard: Yard, boxes: &[i32]) -> bool
     requires room { BoxesFit yard boxes.now }
     ensures sizes { result ≡ sizes_hold yard boxes.now }
 {
-    let b = yard.b as usize;
-    for i in 0..b {
-        if !size_holds(boxes, i) {
-            return false;
-        }
-    }
-    true
+    (0..yard.b as usize).all(|i| size_holds(boxes, i))
 }
 
+#[tactic(auto, unfolding(crate::specs::Rule9::start_holds))]
 fn start_holds(yard: Yard, cells: &[u8], boxes: &[i32], i: usize) -> bool
     requires laid { CellsFit yard cells.now }
     requires room { (i < 32) × (4 * i + 4 ≤ length boxes.now) }
@@ -75,9 +60,7 @@ fn start_holds(yard: Yard, cells: &[u8], boxes: &[i32], i: usize) -> bool
     ensures start { result ≡ start_holds yard cells.now boxes.now i }
 {
     let size = Size::at(boxes, i);
-    let x = word_of(boxes, i, 0);
-    let y = word_of(boxes, i, 1);
-    is_free(yard, cells, size, x, y)
+    Ground { yard, cells, size }.is_free(word_of(boxes, i, Word::X), word_of(boxes, i, Word::Y))
 }
 
 // Every start is free; the sizes hold.
@@ -87,11 +70,5 @@ pub fn starts_hold(yard: Yard, cells: &[u8], boxes: &[i32]) -> bool
     requires sized { sizes_hold yard boxes.now ≡ true }
     ensures starts { result ≡ starts_hold yard cells.now boxes.now }
 {
-    let b = yard.b as usize;
-    for i in 0..b {
-        if !start_holds(yard, cells, boxes, i) {
-            return false;
-        }
-    }
-    true
+    (0..yard.b as usize).all(|i| start_holds(yard, cells, boxes, i))
 }

@@ -7,15 +7,13 @@ ghost use Rattle.yard.specs.Says.{MagnitudeSays};
 pub fn magnitude(z: i32) -> usize
     ensures size { MagnitudeSays z result }
 {
-    if z < 0 {
-        return (-1 - z) as usize + 1;
-    }
-    z as usize
+    z.unsigned_abs() as usize
 }
 
 // low to high, ends allowed.
+#[tactic(auto, unfolding(crate::specs::Ranges::between))]
 pub fn is_between(low: i32, z: i32, high: i32) -> bool
     ensures tested { result ≡ between low z high }
 {
-    low <= z && z <= high
+    (low..=high).contains(&z)
 }

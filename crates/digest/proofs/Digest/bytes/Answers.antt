@@ -1,13 +1,19 @@
--- `bytes` meets its contract. The loop's invariant: the digest of all the bytes is the one so far,
--- continued over the bytes from `i` on.
-use mathlib.Core.Path.{sym, ◌∙◌}
-use Rattle.digest.proofs.Fnv.{one_more, no_more}
+-- `bytes` meets its contract: after each call of its closure the digest is that of the bytes so far.
+use mathlib.Core.Path.{◌≡◌, refl, subst}
+use borrow.Author.Rules.{rules}
+use Rattle.std.proofs.lemmas.Fn.{fold_over, slice_gives, fronts}
+use Rattle.digest.specs.Fnv.{fnv}
+use Rattle.digest.proofs.Fnv.{one_more}
 use Rattle.digest.proofs.Digest.bytes.Goals as goal
 
-pub loop-i-preserved : goal.loop-i-preserved
-loop-i-preserved c =
-    rw c.byte-digest.ensures.continued
-    (c.loop-i.invariant ∙ one_more _ _ _ c.loop-i-test.true)
-
 pub returns : goal.returns
-returns c = record { continued = sym (c.loop-i.invariant ∙ no_more _ _ _ c.loop-i-test.false) }
+unfolding fnv
+returns c =
+    let value = c.args.self.value in
+    record {
+      continued =
+          subst (λ l. c.fold.result.value ≡ fnv value l) c.iter.ensures.rest
+          (fold_over fronts (λ y. y.now) _ (λ ys d. d.value ≡ fnv value ys) _
+          (λ ys a x b f j k. let more = one_more value ys x.now in search rules) _ _ _ _
+          (slice_gives c.iter.result) refl c.fold.ensures.ran);
+    }

@@ -1,14 +1,9 @@
-use Prim.Native.Nat.{◌≤◌, ◌*◌, ◌-◌}
+use Prim.Native.Nat.{◌*◌}
 use mathlib.Core.List.{◌++◌}
 use mathlib.Core.Path.{◌≡◌}
-use lib.ListN.{length, drop}
+use lib.ListN.{drop}
 use Rattle.fleet.specs.State.{start_to, carrier_words}
 use Rattle.fleet.proofs.state.start.Given as goal
 
 abbrev pub invariant-loop-i : goal.invariant-loop-i
-invariant-loop-i l =
-    (l.i ≤ l.b) × (length l.state ≡ length l.initial.state)
-    × (l.state ≡ start_to l.boxes l.i ++ drop (carrier_words * l.i) l.initial.state)
-
-abbrev pub decreases-loop-i : goal.decreases-loop-i
-decreases-loop-i l = l.b - l.i
+invariant-loop-i l = l.state ≡ start_to l.boxes l.i ++ drop (carrier_words * l.i) l.initial.state

@@ -1,7 +1,7 @@
 -- `state::store` meets its contract.
 use borrow.Author.Rules.{rules}
 use Rattle.fleet.proofs.Words.{put_words}
-use Rattle.yard.proofs.Signed.{got}
+use Rattle.basis.proofs.Signed.{got}
 use Rattle.fleet.proofs.state.store.Goals as goal
 
 pub returns : goal.returns

@@ -1,3 +1,0 @@
--- What the programs read.
---   Read  how much of a file was read
-pub mod Read
