@@ -48,7 +48,7 @@ impl Kind {
     }
 }
 
-// Puts in the forces of these kinds and numbers; 18 where a kind is none. They are not given back in
+// Puts in the forces of these kinds and numbers; 18 where a kind is none. They aren't given back in
 // the `Result`, which would copy an array of them.
 fn put_forces(kinds: &[u32], numbers: &[f64], forces: &mut [Force]) -> Result<(), Refusal>
     requires room { length forces.old ≡ length kinds.now }
