@@ -35,6 +35,7 @@ fn program(one: &[u8], two: &[u8], out: &mut [u8]) -> usize
 fn read_argument(rt: &(impl Env + Files), i: usize, buffer: &mut [u8]) -> Option<usize>
     ensures read { IfSome result (λ n. n ≤ length buffer.new) }
 {
+    // A path of fixed size, so nothing is allocated.
     let mut path = [0u8; 4096];
     let n = rt.arg(i, &mut path).ok()?;
     let name = str::from_utf8(&path[..n]).ok()?;
