@@ -4,6 +4,7 @@ use mathlib.Core.Path.{◌≡◌, refl, sym, ap, ◌∙◌}
 use mathlib.Core.Logic.Iff
 use mathlib.Core.Logic.{◌↔◌, ◌⊎◌, inl, inr, ⊎_elim, ⊎_map}
 use mathlib.Core.Bool.{Bool, true, false, cond}
+use mathlib.Core.List.Memᴰ
 use mathlib.Core.List.{List, [], ◌∷◌, Memᴰ}
 use lib.ListN.{length, take}
 use Rattle.std.specs.Prelude.{Ok}
@@ -51,9 +52,9 @@ module _ {x r : Record} {P : Type 0} {l : List Record} where
   added : (t : Bool) → ((P ⊎ ((t ≡ true) × (x ≡ r))) ⊎ Memᴰ x l)
       ↔ (P ⊎ Memᴰ x (cond t (r ∷ l) l))
   added true = (
-    ⊎_elim (⊎_elim inl (λ h. inr (mathlib.Core.List.Memᴰ.head h.1))) (λ m. inr (mathlib.Core.List.Memᴰ.tail m)),
+    ⊎_elim (⊎_elim inl (λ h. inr (Memᴰ.head h.1))) (λ m. inr (Memᴰ.tail m)),
     ⊎_elim (λ p. inl (inl p))
-        (λ m. ⊎_elim (λ e. inl (inr (refl, e))) inr (mathlib.Core.List.Memᴰ.cases_cons m)),
+        (λ m. ⊎_elim (λ e. inl (inr (refl, e))) inr (Memᴰ.cases_cons m)),
   )
   added false = (⊎_elim (⊎_elim inl (λ h. never h.0 refl)) inr, ⊎_elim (λ p. inl (inl p)) inr)
 
@@ -78,7 +79,7 @@ module _ (world : World) (opens : Opens world) where
       → Memᴰ x (modelRun s calls).log
       ↔ (Memᴰ x s.log ⊎ Memᴰ x (delivered_by world (handed world s) calls))
   unfolding modelRun delivered_by
-  held_after s k [] x = (inl, ⊎_elim (λ m. m) (λ m. absurd (mathlib.Core.List.Memᴰ.not-nil m)))
+  held_after s k [] x = (inl, ⊎_elim (λ m. m) (λ m. absurd (Memᴰ.not-nil m)))
   held_after s k (reading t ∷ calls) x =
       let then = modelNext s (reading t) in
       let later = held_after then (kept_next (lawful world opens) (reading t) k) calls x in
