@@ -13,7 +13,7 @@ use lib.Dec.{eqb, ltb}
 use borrow.Author.Tests.{eqb-true, eqb-false, ltb-true, ltb-false}
 use Rattle.basis.proofs.Lists.{paste_at, paste_before, paste_after}
 use Rattle.record.specs.Buffer.{lever_at}
-use Rattle.record.specs.Log.{records_of}
+use Rattle.record.specs.Log.{records}
 use Rattle.record.specs.declared.bytes.Record.{Record}
 use Rattle.record.proofs.Logs.{AllWithin, done, more, all_within}
 use Rattle.yard.specs.declared.carrier.Carrier.{Carrier}
@@ -185,13 +185,13 @@ step_keeps {l = l} world t state a s =
     all_keeps world (λ i. lever_at t i l) (λ i. lever_fits t i a) state s
 
 -- A log that fits holds levers 0 to 9, and a step under it keeps the state rule.
-module _ {world : World} {log : List ℕ} (fits : LogFits world log) where
-  abbrev pub within : AllWithin world.yard.b (records_of log)
-  within = all_within world.yard.b _ log fits.unrefused
+module _ {world : World} {held : ℕ} {log : List ℕ} (fits : LogFits world held log) where
+  abbrev pub within : AllWithin world.yard.b (records held log)
+  within = all_within world.yard.b held log fits.unrefused
 
-  pub log_lever : (t i : ℕ) → LeverFits (lever_at t i (records_of log))
+  pub log_lever : (t i : ℕ) → LeverFits (lever_at t i (records held log))
   log_lever t i = lever_fits t i within
 
   pub log_step : (t : ℕ) (state : List ℤ) → StateFits world state
-      → StateFits world (step_at world (records_of log) t state)
+      → StateFits world (step_at world (records held log) t state)
   log_step t state s = step_keeps world t state within s

@@ -23,6 +23,6 @@ examples =
             room = record { b = omega arith; room = refl };
             sizes = refl;
           };
-      log = record { few = omega arith; unrefused = refl; ascends = refl };
+      log = record { few = omega arith; room = omega arith; unrefused = refl; ascends = refl };
       start = record { room = refl; sound = refl };
     }

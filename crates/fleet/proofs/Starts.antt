@@ -22,7 +22,7 @@ use Rattle.yard.proofs.Fits.{start_free}
 use Rattle.yard.proofs.Soundness.{rest_sound}
 use Rattle.fleet.specs.State.{World, world_of, carrier_words, carrier, words_of, free_for}
 use Rattle.fleet.specs.State.{sound_state, start_to, start_state}
-use Rattle.fleet.specs.Fits.{LogFits, StateFits}
+use Rattle.fleet.specs.Fits.{WholeLogFits, StateFits}
 use Rattle.fleet.proofs.Words.{same_words, carrier_is, length_start}
 
 -- Carrier i as it starts.
@@ -78,7 +78,12 @@ start_fits yard cells boxes e =
 
 -- A log that rule 13 lets pass, whole.
 pub log_fits : (world : World) (log : List ℕ) → sound_log world.yard.b log ≡ true
-    → LogFits world log
+    → WholeLogFits world log
 log_fits world log e =
     let s = sound world.yard.b log e in
-    record { few = s.few; unrefused = s.unrefused; ascends = s.ascends }
+    record {
+      few = s.few;
+      room = omega arith;
+      unrefused = s.unrefused;
+      ascends = s.ascends;
+    }

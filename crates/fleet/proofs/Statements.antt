@@ -49,7 +49,7 @@ one_step =
       each = each_moved;
       same = same_all;
       stays = λ world levers state fits s. all_keeps world levers fits state s;
-      log = λ world log t state l. log_step l t state;
+      log = λ world held log t state l. log_step l t state;
     }
 
 pub runs : Runs
@@ -58,7 +58,7 @@ runs =
       joined = joined;
       joined_saving = saving_joined;
       state = saving_state;
-      stays = λ world log t k state l s. run_keeps world _ t k state (within l) s;
+      stays = λ world held log t k state l s. run_keeps world _ t k state (within l) s;
       same = same_run;
       same_saving = saving_same;
     }

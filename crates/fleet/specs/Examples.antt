@@ -26,5 +26,5 @@ two_records =
 pub record Practice : Type 0 where
   -- The world and the log fit, and the start is sound.
   pub world : WorldFits practice
-  pub log : LogFits practice two_records
+  pub log : LogFits practice 2 two_records
   pub start : StateFits practice (start_state practice)

@@ -3,7 +3,7 @@ use Rattle.std.specs.Prelude.{ℕ, ◌+◌, ◌*◌, ◌-◌, ◌≤◌, ◌<◌
 use Rattle.basis.specs.Numbers.{row_count}
 use Rattle.basis.specs.Order.{Determines}
 use Rattle.record.specs.declared.bytes.Record.{Record}
-use Rattle.record.specs.Log.{records_of}
+use Rattle.record.specs.Log.{records}
 use Rattle.record.specs.Buffer.{lever_at}
 use Rattle.yard.specs.declared.carrier.Carrier.{Carrier}
 use Rattle.yard.specs.Boxes.{word, size_of}
@@ -97,9 +97,9 @@ pub record OneStep : Type 0 where
       → ((i : ℕ) → LeverFits (levers i)) → StateFits world state
       → StateFits world (step_all world levers state)
   -- So it does under the records of any sound log.
-  pub log : (world : World) (log : List ℕ) (t : ℕ) (state : List ℤ)
-      → LogFits world log → StateFits world state
-      → StateFits world (step_at world (records_of log) t state)
+  pub log : (world : World) (held : ℕ) (log : List ℕ) (t : ℕ) (state : List ℤ)
+      → LogFits world held log → StateFits world state
+      → StateFits world (step_at world (records held log) t state)
 
 -- Two lists of records hold the same levers for k steps from step t on.
 abbrev pub Agree : World → ℕ → ℕ → List Record → List Record → Type 0
@@ -119,9 +119,9 @@ pub record Runs : Type 0 where
   pub state : (world : World) (list : List Record) (t k : ℕ) (course : Course)
       → (run_saving world list t k course).state ≡ run world list t k course.state
   -- A sound state stays sound and keeps its number of words, under the records of any sound log.
-  pub stays : (world : World) (log : List ℕ) (t k : ℕ) (state : List ℤ)
-      → LogFits world log → StateFits world state
-      → StateFits world (run world (records_of log) t k state)
+  pub stays : (world : World) (held : ℕ) (log : List ℕ) (t k : ℕ) (state : List ℤ)
+      → LogFits world held log → StateFits world state
+      → StateFits world (run world (records held log) t k state)
   -- 'records for step n or later .. move nothing', nor do those of steps before the run.
   pub same : (world : World) (list other : List Record) (t k : ℕ) (state : List ℤ)
       → Agree world t k list other

@@ -52,6 +52,7 @@ pub fn start(yard: Yard, boxes: &[i32], state: &mut [i32])
     requires words { length state.old ≡ carrier_words * yard.b }
     ensures started { state.new ≡ start_to boxes.now yard.b }
 {
+    // `i` is a carrier's number.
     for i in 0..yard.b as usize {
         let at_rest = Carrier {
             x: word_of(boxes, i, Word::X),

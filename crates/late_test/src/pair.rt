@@ -52,6 +52,7 @@ fn reading(rt: &impl Print, k: Pair, reading: u64) -> io::Result<Pair> {
     Ok(left)
 }
 
+// The record by its numbers, as a line of the test names them.
 fn deliver(rt: &impl Print, k: Pair, step: u32, carrier: u8, lever: u8) -> io::Result<Pair> {
     let r = Record {
         step,

@@ -16,21 +16,18 @@ fn main(rt: HostRuntime) -> io::Result<()> {
 }
 
 fn sound_logs(rt: &impl Print) -> io::Result<()> {
-    let logs: [(&str, &[u8]); 5] = [
+    let sound: [(&str, &[u8]); 5] = [
         ("empty", b""),
         ("one record of zeros", b"\0\0\0\0\0\0\0\0"),
         ("the last place, the brake", b"\x1f\xbf\x02\0\x1f\x09\0\0"),
         ("by carrier", b"\0\0\0\0\0\x01\0\0\0\0\0\0\x01\x02\0\0"),
         ("by step", b"\0\0\0\0\x05\x01\0\0\x01\0\0\0\0\x02\0\0"),
     ];
-    for (name, bytes) in logs {
-        log(rt, name, bytes)?;
-    }
-    Ok(())
+    logs(rt, &sound)
 }
 
 fn damaged_logs(rt: &impl Print) -> io::Result<()> {
-    let logs: [(&str, &[u8]); 10] = [
+    let damaged: [(&str, &[u8]); 10] = [
         ("seven bytes", b"\0\0\0\0\0\0\0"),
         ("a record and a half", b"\0\0\0\0\0\0\0\0\x01\0\0\0"),
         ("seventh byte", b"\0\0\0\0\0\0\x01\0"),
@@ -45,6 +42,10 @@ fn damaged_logs(rt: &impl Print) -> io::Result<()> {
             b"\0\0\0\0\x01\x01\0\0\0\0\0\0\0\x02\0\0",
         ),
     ];
+    logs(rt, &damaged)
+}
+
+fn logs(rt: &impl Print, logs: &[(&str, &[u8])]) -> io::Result<()> {
     for (name, bytes) in logs {
         log(rt, name, bytes)?;
     }

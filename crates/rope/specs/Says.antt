@@ -8,9 +8,9 @@ use Rattle.rope.specs.declared.Force.{Force}
 use Rattle.rope.specs.Step.{rope_order}
 
 -- A step under the first `count` forces.
-abbrev pub Counted : Point → List Force → ℕ → Result Point Refusal → Type 0
-Counted point forces count out = answer_of out ≡ answer (rope_order point forces count)
+abbrev pub StepsUnder : Point → List Force → ℕ → Result Point Refusal → Type 0
+StepsUnder point forces count out = answer_of out ≡ answer (rope_order point forces count)
 
 -- `Point::step`: each force counts.
 abbrev pub StepSays : Point → List Force → Result Point Refusal → Type 0
-StepSays point forces out = Counted point forces (length forces) out
+StepSays point forces out = StepsUnder point forces (length forces) out

@@ -14,7 +14,7 @@ use Rattle.clock.specs.Clock.{sound_clock}
 use Rattle.clock.proofs.Sound.{sound_says}
 use Rattle.yard.specs.Rule9.{ranges_hold, cells_hold, sizes_hold}
 use Rattle.fleet.specs.State.{carrier_words, sound_state}
-use Rattle.fleet.specs.Fits.{WorldFits, LogFits, StateFits, RowsFit}
+use Rattle.fleet.specs.Fits.{WorldFits, WholeLogFits, StateFits, RowsFit}
 use Rattle.fleet.proofs.Starts.{log_fits as sound_log_fits}
 use Rattle.session.specs.declared.Session.{Session}
 use Rattle.session.specs.Lent.{Lent, world_in, held_in}
@@ -98,7 +98,7 @@ module _ (session : Session) (l : Lent) where
     pub held_long : length (take (8 * session.held) l.log) ≡ 8 * session.held
     held_long = length-take-le (8 * session.held) l.log held_fits
 
-    pub log_fits : LogFits (world_in session l) (take (8 * session.held) l.log)
+    pub log_fits : WholeLogFits (world_in session l) (take (8 * session.held) l.log)
     log_fits =
         sound_log_fits (world_in session l) (take (8 * session.held) l.log) (good ok).buffer.log
 

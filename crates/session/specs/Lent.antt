@@ -21,8 +21,8 @@ lent cells boxes state rows log =
     record { cells = cells; boxes = boxes; state = state; rows = rows; log = log }
 
 -- What the code's buffers hold.
-abbrev pub lent_in : Buffers → Lent
-lent_in b = lent b.cells.now b.boxes.now b.state.now b.rows.now b.log.now
+abbrev pub lent_of : Buffers → Lent
+lent_of b = lent b.cells.now b.boxes.now b.state.now b.rows.now b.log.now
 
 -- The world that a session's W, H, B and the lent cells and boxes make.
 abbrev pub world_in : Session → Lent → World

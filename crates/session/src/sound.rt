@@ -3,7 +3,7 @@
 ghost use Rattle.std.specs.Prelude.{◌≡◌};
 ghost use Rattle.fleet.specs.State.{sound_state};
 ghost use Rattle.fleet.specs.Fits.{RowsFit, WorldFits};
-ghost use Rattle.session.specs.Lent.{lent_in, world_in};
+ghost use Rattle.session.specs.Lent.{lent_of, world_in};
 ghost use Rattle.session.specs.Calls.{row_in};
 ghost use Rattle.session.specs.Sound.{sound};
 
@@ -16,7 +16,7 @@ impl Session {
     // Is the session sound with these buffers.
     #[tactic(auto, using(crate::proofs::Room::lengths_say), unfolding(crate::specs::Sound::sound))]
     pub(super) fn is_sound(self, lent: Buffers) -> bool
-        ensures sound { result ≡ sound self (lent_in lent.entry) }
+        ensures sound { result ≡ sound self (lent_of lent.entry) }
     {
         let yard = self.yard;
         ranges_hold(yard)
@@ -35,10 +35,10 @@ impl Session {
 
     // Is the row saved before step t sound, by the same rule.
     pub(super) fn row_sound(self, lent: Buffers, t: u32) -> bool
-        requires world { WorldFits (world_in self (lent_in lent)) }
-        requires room { RowsFit (world_in self (lent_in lent)) lent.rows.now }
-        ensures rule { result ≡ sound_state (world_in self (lent_in lent.entry))
-            (row_in self (lent_in lent.entry) t) }
+        requires world { WorldFits (world_in self (lent_of lent)) }
+        requires room { RowsFit (world_in self (lent_of lent)) lent.rows.now }
+        ensures rule { result ≡ sound_state (world_in self (lent_of lent.entry))
+            (row_in self (lent_of lent.entry) t) }
     {
         let yard = self.yard;
         let site = Site {

@@ -5,7 +5,7 @@ ghost use Rattle.std.specs.Prelude.{◌≡◌, true, ◌*◌, length};
 ghost use Rattle.basis.specs.Order.{answer};
 ghost use Rattle.basis.specs.Refusal.{answer_of};
 ghost use Rattle.session.specs.Calls.{world_order};
-ghost use Rattle.session.specs.Lent.{lent_in};
+ghost use Rattle.session.specs.Lent.{lent_of};
 ghost use Rattle.session.specs.Sound.{room, world_room};
 
 use super::Buffers;
@@ -29,7 +29,7 @@ impl Buffers<'_> {
     // Rule 10 whole.
     #[tactic(auto, unfolding(crate::specs::Sound::room))]
     pub(super) fn has_room(self, yard: Yard) -> bool
-        ensures room { result ≡ room yard (lent_in self.entry) }
+        ensures room { result ≡ room yard (lent_of self.entry) }
     {
         world_room(yard, self.cells.len(), self.boxes.len(), self.state.len())
             && self.rows.len() == Rows::COUNT * (State::WORDS * yard.b as usize)
@@ -37,7 +37,7 @@ impl Buffers<'_> {
     }
 }
 
-// Opening's order, where rule 10 has been answered.
+// Opening's order, where rule 10 has been answered; a `Site` can be made of a world only after it.
 #[tactic(auto, using(crate::proofs::Openings::tests), unfolding(crate::specs::Calls::world_order))]
 pub fn check_world(yard: Yard, lengths: bool, cells: &[u8], boxes: &[i32]) -> Result<(), Refusal>
     requires room { lengths ≡ true

@@ -15,7 +15,7 @@ use Rattle.session.specs.Sound.{sound}
 use Rattle.session.specs.declared.Session.{Session}
 use Rattle.session.proofs.Good.{good}
 use Rattle.session.proofs.Room.{width_most, height_most, carriers_most}
-use Rattle.station.specs.Words.{session_words, session_of, nine, fits_u32, words_fit, words_order}
+use Rattle.station.specs.Words.{session_of, nine, fits_u32, words_fit, words_order}
 
 -- The ways through the reading of nine words.
 module _ (words : List ℕ) where
@@ -74,11 +74,8 @@ module _ (words : List ℕ) where
       (and_left (nine words && w) h
       (and_left (nine words && w && h) (fits_u32 (get_or words 2 0)) (read_gives e).0))
 
-  -- So the words of any session have room there.
-  pub read_as_long : {s : Session} (other : Session) → answer (words_order words) ≡ accepted s
-      → length words ≡ length (session_words other)
-  unfolding session_words
-  read_as_long other e = eqb-true _ _ (read_nine e)
+  pub read_long : {s : Session} → answer (words_order words) ≡ accepted s → length words ≡ 9
+  read_long e = eqb-true _ _ (read_nine e)
 
   pub read_session : {s : Session} → answer (words_order words) ≡ accepted s
       → session_of words ≡ s

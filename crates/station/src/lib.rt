@@ -45,7 +45,8 @@ impl Face {
     const DONE: u32 = 255;
 }
 
-// What a call tells by a number: its own where it is accepted, else that of the refusal.
+// What a call tells by a number: its own where it is accepted, else that of the refusal. Each
+// function of C is told by it of a part that answers a `Result`, since `?` wants a function.
 fn told(outcome: Result<u32, Refusal>) -> u32
     ensures told { result ≡ told_of outcome }
 {

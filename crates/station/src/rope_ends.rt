@@ -11,7 +11,7 @@ use super::{Face, told};
 use basis::Refusal;
 use rope::{Force, Point};
 
-// The kinds of forces: 0, 1 and 2 (document 02, §8).
+// The kinds of forces: 0, 1 and 2 (document 02, §8). C lends them beside their numbers.
 #[derive(Clone, Copy)]
 enum Kind {
     Pull,

@@ -1,6 +1,6 @@
 // A session as the nine words of the C face: w, h, b, first, last, remainder, cut, steps, held.
 
-ghost use Rattle.std.specs.Prelude.{◌≡◌};
+ghost use Rattle.std.specs.Prelude.{◌≡◌, length};
 ghost use Rattle.basis.specs.Order.{answer};
 ghost use Rattle.basis.specs.Refusal.{answer_of};
 ghost use Rattle.station.specs.Words.{session_words, words_order, SmallOf};
@@ -48,21 +48,20 @@ pub fn session_of(words: &[u64]) -> Result<Session, Refusal>
     })
 }
 
-// The nine words of a session.
+// Puts a session into nine words.
 #[tactic(auto, unfolding(crate::specs::Words::session_words))]
-pub fn words_of(session: Session) -> [u64; Words::COUNT]
-    ensures words { result ≡ session_words session }
+pub fn put_session(session: Session, words: &mut [u64])
+    requires room { length words.old ≡ 9 }
+    ensures put { words.new ≡ session_words session }
 {
     let Session { yard, clock, held } = session;
-    [
-        u64::from(yard.w),
-        u64::from(yard.h),
-        u64::from(yard.b),
-        clock.first,
-        clock.last,
-        clock.remainder,
-        clock.cut,
-        clock.steps,
-        held as u64,
-    ]
+    words[0] = u64::from(yard.w);
+    words[1] = u64::from(yard.h);
+    words[2] = u64::from(yard.b);
+    words[3] = clock.first;
+    words[4] = clock.last;
+    words[5] = clock.remainder;
+    words[6] = clock.cut;
+    words[7] = clock.steps;
+    words[8] = held as u64;
 }

@@ -25,8 +25,9 @@ pub fn ranges_hold(yard: Yard) -> bool
         && is_from_one(yard.b, basis::Limit::CARRIERS)
 }
 
-// `room`, below, asks of any words that are long enough: no type says it, since `word_of` and
-// `Size::at` promise the same of worlds that are not tested yet.
+// `room`, below, asks of any words that are long enough: `word_of` and `Size::at` promise as much
+// of worlds that are not tested yet, of which a type over `BoxesFit` would ask more. Sizes and
+// starts have a test each, as the rule has.
 
 // No cell byte is above 1.
 pub fn cells_hold(cells: &[u8]) -> bool

@@ -41,7 +41,8 @@ impl Ground<'_> {
         }
     }
 
-    // The units moved along the axis, up to |speed|.
+    // The units moved along the axis, up to |speed|. What a move is given goes one by one: a struct
+    // of it would be made for this chain of calls alone.
     fn distance(&self, axis: Axis, speed: i32, x: i32, y: i32) -> usize
         requires slow { nat_abs speed ≤ 200 }
         requires stands { free_on self.now x y ≡ true }
@@ -53,7 +54,9 @@ impl Ground<'_> {
             .unwrap_or(most)
     }
 
-    // The move along the axis of a carrier that stands free at (x, y).
+    // The move along the axis of a carrier that stands free at (x, y). Put into each step whole,
+    // where its two calls would cost a sixth of it.
+    #[inline(always)]
     #[tactic(auto, unfolding(crate::specs::Slide::slide))]
     pub(super) fn slide(&self, axis: Axis, speed: i32, x: i32, y: i32) -> Moved
         requires slow { nat_abs speed ≤ 200 }

@@ -3,7 +3,7 @@ ghost use Rattle.std.specs.Prelude.{◌≡◌};
 ghost use Rattle.yard.specs.Ranges.{between};
 ghost use Rattle.yard.specs.Says.{MagnitudeSays};
 
-// |z|, also of the least i32.
+// |z|, also of the least i32: std's `unsigned_abs`, as wide as a size.
 pub fn magnitude(z: i32) -> usize
     ensures size { MagnitudeSays z result }
 {

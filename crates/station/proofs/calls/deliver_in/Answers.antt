@@ -3,7 +3,7 @@ use mathlib.Core.Path.{sym}
 use Rattle.session.specs.Lent.{Lent, lent}
 use Rattle.station.proofs.Leaving.{deliver_unread, deliver_left}
 use Rattle.station.proofs.Outcomes.{told_on}
-use Rattle.station.proofs.Sessions.{read_as_long}
+use Rattle.station.proofs.Sessions.{read_long}
 use Rattle.station.proofs.calls.deliver_in.Goals as goal
 use Rattle.station.proofs.calls.deliver_in.Goals.{in-Taken, in-Held}
 
@@ -28,9 +28,8 @@ returns-in_err-delivered c =
           c.in_err-delivered.ensures.delivered);
     }
 
-pub copy_from_slice-requires : goal.copy_from_slice-requires
-copy_from_slice-requires c =
-    rw c.words_of.ensures.words (read_as_long _ _ (sym c.in_ok-before.ensures.session))
+pub put_session-requires : goal.put_session-requires
+put_session-requires c = record { room = read_long _ (sym c.in_ok-before.ensures.session) }
 
 pub returns : goal.returns
 returns c =
@@ -40,7 +39,7 @@ returns c =
     deliver_left _ mem _ (sym c.in_ok-before.ensures.session) c.in_ok-delivered.ensures.delivered in
     record {
       delivered =
-          rw (c.copy_from_slice.ensures.after, c.words_of.ensures.words)
+          rw c.put_session.ensures.put
           (elim c.match-delivered.branch [
             | in-Taken w ↦ rw w.number-is (rw w.in-Taken.is at made)
             | in-Held w ↦ rw w.number-is (rw w.in-Held.is at made)

@@ -40,6 +40,6 @@ returns c =
     let mem : Lent = lent a.cells.now a.boxes.now a.state.now a.rows.now a.log.now in
     record {
       opened =
-          rw (c.copy_from_slice.ensures.after, c.words_of.ensures.words)
+          rw c.put_session.ensures.put
           (open_left _ _ mem _ c.if-words-ne-COUNT.false c.in_ok-session.ensures.opened);
     }

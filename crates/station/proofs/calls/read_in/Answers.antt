@@ -3,7 +3,7 @@ use mathlib.Core.Path.{sym}
 use Rattle.session.specs.Lent.{Lent, lent}
 use Rattle.station.proofs.Leaving.{reading_unread, reading_left}
 use Rattle.station.proofs.Outcomes.{told_on}
-use Rattle.station.proofs.Sessions.{read_as_long}
+use Rattle.station.proofs.Sessions.{read_long}
 use Rattle.station.proofs.calls.read_in.Goals as goal
 
 pub returns-in_err-before : goal.returns-in_err-before
@@ -26,9 +26,8 @@ returns-in_err-session c =
           (reading_left _ mem _ (sym c.in_ok-before.ensures.session) c.in_err-session.ensures.read);
     }
 
-pub copy_from_slice-requires : goal.copy_from_slice-requires
-copy_from_slice-requires c =
-    rw c.words_of.ensures.words (read_as_long _ _ (sym c.in_ok-before.ensures.session))
+pub put_session-requires : goal.put_session-requires
+put_session-requires c = record { room = read_long _ (sym c.in_ok-before.ensures.session) }
 
 pub returns : goal.returns
 returns c =
@@ -36,6 +35,6 @@ returns c =
     let mem : Lent = lent a.cells.now a.boxes.now a.state.now a.rows.now a.log.now in
     record {
       read =
-          rw (c.copy_from_slice.ensures.after, c.words_of.ensures.words)
+          rw c.put_session.ensures.put
           (reading_left _ mem _ (sym c.in_ok-before.ensures.session) c.in_ok-session.ensures.read);
     }

@@ -1,7 +1,7 @@
 -- `digest_into` meets its contract.
 use mathlib.Core.Path.{sym}
 use mathlib.Core.List.{[], ◌∷◌}
-use Rattle.session.specs.Lent.{lent_in}
+use Rattle.session.specs.Lent.{lent_of}
 use Rattle.station.proofs.Outcomes.{told_on, refused_fills, stored_fills}
 use Rattle.station.proofs.Showing.{digest_room, digest_unread, digest_refused, digest_given}
 use Rattle.station.proofs.show.digest_into.Goals as goal
@@ -25,7 +25,7 @@ returns-in_err-out c =
       digested =
           rw (told_on _ _ c.from_residual-in_err-out.ensures.1)
           (refused_fills _
-          (digest_refused (lent_in c.args.lent) _ _ c.if-out-ne1.false
+          (digest_refused (lent_of c.args.lent) _ _ c.if-out-ne1.false
           (sym c.in_ok-session.ensures.session) (sym c.in_err-out.ensures.digested)));
     }
 
@@ -34,6 +34,6 @@ returns c =
     record {
       digested =
           stored_fills _ (c.in_ok-out.field-0 ∷ []) c.if-out-ne1.false
-          (digest_given (lent_in c.args.lent) _ _ c.if-out-ne1.false
+          (digest_given (lent_of c.args.lent) _ _ c.if-out-ne1.false
           (sym c.in_ok-session.ensures.session) (sym c.in_ok-out.ensures.digested));
     }

@@ -1,7 +1,7 @@
 -- `shown_into` meets its contract.
 use mathlib.Core.List.{[], ◌∷◌}
 use mathlib.Core.Path.{sym}
-use Rattle.session.specs.Lent.{lent_in}
+use Rattle.session.specs.Lent.{lent_of}
 use Rattle.station.proofs.Outcomes.{told_on, refused_fills, stored_fills}
 use Rattle.station.proofs.Showing.{shown_room, shown_unread, shown_refused, shown_given}
 use Rattle.station.proofs.show.shown_into.Goals as goal
@@ -25,7 +25,7 @@ returns-in_err-place c =
       shown =
           rw (told_on _ _ c.from_residual-in_err-place.ensures.1)
           (refused_fills _
-          (shown_refused _ (lent_in c.args.lent) _ _ c.if-out-ne2.false
+          (shown_refused _ (lent_of c.args.lent) _ _ c.if-out-ne2.false
           (sym c.in_ok-session.ensures.session) (sym c.in_err-place.ensures.shown)));
     }
 
@@ -35,6 +35,6 @@ returns c =
     record {
       shown =
           stored_fills _ (place.x ∷ place.y ∷ []) c.if-out-ne2.false
-          (shown_given _ (lent_in c.args.lent) _ _ c.if-out-ne2.false
+          (shown_given _ (lent_of c.args.lent) _ _ c.if-out-ne2.false
           (sym c.in_ok-session.ensures.session) (sym c.in_ok-place.ensures.shown));
     }
