@@ -35,8 +35,8 @@
    shared.
 
    Stack.  Nothing is allocated and no function recurs.  A call takes at most
-   968 bytes of stack beside its arguments (read off the machine code along
-   the deepest chain of calls, memset and memmove of the C library not counted).
+   776 bytes of stack beside its arguments (read off the machine code along
+   the deepest chain of calls, memset of the C library not counted).
 
    Machine.  x86-64, System V calling convention.
 

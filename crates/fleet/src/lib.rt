@@ -16,6 +16,6 @@ mod state;
 mod step;
 
 pub use practice::Practice;
-pub use rows::{Rows, clear_rows};
+pub use rows::{Rows, clear_rows, copy_words};
 pub use site::Site;
 pub use state::{State, load, start, store};

@@ -24,7 +24,7 @@ use Rattle.rope.specs.declared.Force.{Force}
 use Rattle.rope.specs.Forces.{plus_zero, force_on, sum_from, finite_force, finite_forces}
 use Rattle.rope.specs.Step.{over, speed_by, moved_by, finite_point, moved_under, rope_order}
 use Rattle.rope.specs.Facts.{Rule18}
-use Rattle.rope.specs.Says.{StepsUnder}
+use Rattle.rope.specs.Says.{StepCountedSays}
 use Rattle.rope.specs.Statements.{Determined, StepNumbers, NoForces, RopeEnds}
 use Rattle.rope.specs.Statements.{point_at, Examples}
 use Rattle.rope.proofs.Own.{kept, keeps_value, from_minus_zero}
@@ -39,7 +39,7 @@ determined =
     }
 
 module _ (point : Point) (forces : List Force) (count : ℕ) (out : Result Point Refusal)
-    (says : StepsUnder point forces count out) where
+    (says : StepCountedSays point forces count out) where
   -- An outcome is given where the order comes to what it stands for.
   is_given : (a : Result Point Refusal) → (out ≡ a) ↔ (answer (rope_order point forces count) ≡ answer_of a)
   is_given a = (λ e. sym says ∙ ap answer_of e, λ e. one_answer out a (says ∙ e))
@@ -67,7 +67,7 @@ unfolding mul round
 no_push = refl
 
 module _ (point : Point) (forces : List Force) (next : Point)
-    (says : StepsUnder point forces 0 (Ok next)) (fits-it : fits binary64 point.speed ≡ true)
+    (says : StepCountedSays point forces 0 (Ok next)) (fits-it : fits binary64 point.speed ≡ true)
   where
     -- What the acceptance says of the point, and of the point that is given.
     told : (float_is_finite point.speed ≡ true) × (next.speed ≡ add binary64 point.speed plus_zero)

@@ -6,7 +6,7 @@ use mathlib.Core.Bool.{Bool, true, false}
 use mathlib.Core.List.{List}
 use lib.Dec.{leb}
 use lib.ListN.{length, take}
-use lib.Seq.{take_all}
+use lib.Seq.{take_all, take-take, length-take-le}
 use borrow.Author.Tests.{le-leb, lt-leb}
 use Rattle.basis.specs.Numbers.{ROPE}
 use Rattle.basis.specs.Order.{answer, refused, accepted}
@@ -70,3 +70,14 @@ pub same_counted : (point : Point) (forces others : List Force) (count : ℕ)
     → answer (rope_order point forces count) ≡ answer (rope_order point others count)
 unfolding rope_order
 same_counted point forces others count same = rw same
+
+-- So a step of the counted forces alone is the step.
+pub first_counted : (point : Point) (forces : List Force) (count : ℕ) → count ≤ length forces
+    → answer (rope_order point (take count forces) (length (take count forces)))
+    ≡ answer (rope_order point forces count)
+first_counted point forces count h =
+    rw (length-take-le count forces h)
+    (same_counted point (take count forces) forces count
+    (take-take count count forces (le_refl count)))
+
+pub ruleset counting = (too_many, first_counted)

@@ -13,15 +13,15 @@ use Rattle.rope.specs.declared.Force.TheVariants.{Pull, Spring, Drag}
 use Rattle.rope.specs.Forces.{plus_zero, minus_zero}
 use Rattle.rope.specs.Step.{over, moved_under}
 use Rattle.rope.specs.Facts.{Rule18}
-use Rattle.rope.specs.Says.{StepsUnder, StepSays}
+use Rattle.rope.specs.Says.{StepCountedSays, StepSays}
 
--- 'any two outcomes allowed by it coincide', for the contract of the public entry.
+-- 'any two outcomes allowed by it coincide', for the contract of each public entry.
 pub record Determined : Type 0 where
   -- `Point::step`
   pub step : (point : Point) (forces : List Force) → Determines (StepSays point forces)
-  -- The same, of a step under the first `count` forces.
+  -- `Point::step_counted`
   pub counted : (point : Point) (forces : List Force) (count : ℕ)
-      → Determines (StepsUnder point forces count)
+      → Determines (StepCountedSays point forces count)
 
 -- What a step gives, exactly when.
 pub record StepNumbers (point : Point) (forces : List Force) (count : ℕ)
@@ -44,17 +44,17 @@ pub record NoForces (point : Point) (next : Point) : Type 0 where
 -- The step of a rope end, under the first `count` forces: `Point::step` counts each.
 pub record RopeEnds : Type 0 where
   pub numbers : (point : Point) (forces : List Force) (count : ℕ) (out : Result Point Refusal)
-      → StepsUnder point forces count out → StepNumbers point forces count out
+      → StepCountedSays point forces count out → StepNumbers point forces count out
   -- Whatever bits the speed has, it is an f64, as `no_forces` asks.
   pub f64 : (bits : ℕ) → fits binary64 (of_bits binary64 bits) ≡ true
   pub no_forces : (point : Point) (forces : List Force) (next : Point)
-      → StepsUnder point forces 0 (Ok next) → fits binary64 point.speed ≡ true
+      → StepCountedSays point forces 0 (Ok next) → fits binary64 point.speed ≡ true
       → NoForces point next
   -- What lies past the count plays no part.
   pub counted : (point : Point) (forces others : List Force) (count : ℕ)
       (out : Result Point Refusal)
       → take count forces ≡ take count others
-      → StepsUnder point forces count out → StepsUnder point others count out
+      → StepCountedSays point forces count out → StepCountedSays point others count out
 
 -- A point by its place and its speed.
 abbrev pub point_at : Float → Float → Point
@@ -82,7 +82,7 @@ pub record Examples : Type 0 where
   pub start : StepSays (point_at minus_zero minus_zero) (Pull minus_zero ∷ [])
       (Ok (point_at plus_zero plus_zero))
   -- The largest f64 and its opposite cancel; the third force lies past the count.
-  pub in_order : StepsUnder (point_at plus_zero plus_zero)
+  pub in_order : StepCountedSays (point_at plus_zero plus_zero)
       (Pull largest ∷ Pull (neg largest) ∷ Pull largest ∷ []) 2
       (Ok (point_at plus_zero plus_zero))
   -- In this order, all three counted, the sum passes the largest f64 on its way.

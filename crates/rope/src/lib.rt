@@ -6,7 +6,7 @@
 ghost use Rattle.std.specs.Prelude.{◌≡◌};
 ghost use Rattle.rope.specs.Forces.{finite_force, force_on};
 ghost use Rattle.rope.specs.Step.{finite_point, moved_by};
-ghost use Rattle.rope.specs.Says.{StepSays};
+ghost use Rattle.rope.specs.Says.{StepSays, StepCountedSays};
 
 use basis::Refusal;
 
@@ -101,5 +101,16 @@ impl Point {
             return Err(Refusal::Rope);
         }
         Ok(next)
+    }
+
+    // One step under the first `count` forces of an array; those past them play no part.
+    #[tactic(auto, using(crate::proofs::Steps::counting))]
+    pub fn step_counted(self, forces: &[Force; 8], count: usize) -> Result<Point, Refusal>
+        ensures stepped { StepCountedSays self forces.now count result }
+    {
+        if count > Force::MOST {
+            return Err(Refusal::Rope);
+        }
+        self.step(&forces[..count])
     }
 }

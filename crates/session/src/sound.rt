@@ -13,10 +13,11 @@ use record::records_sound;
 use yard::{cells_hold, ranges_hold, sizes_hold};
 
 impl Session {
-    // Is the session sound with these buffers.
+    // Is the session sound with these buffers. Both by reference: copies of them would stand on the
+    // stack of a call.
     #[tactic(auto, using(crate::proofs::Room::lengths_say), unfolding(crate::specs::Sound::sound))]
-    pub(super) fn is_sound(self, lent: Buffers) -> bool
-        ensures sound { result ≡ sound self (lent_of lent.entry) }
+    pub(super) fn is_sound(&self, lent: &Buffers) -> bool
+        ensures sound { result ≡ sound self.now (lent_of lent.now) }
     {
         let yard = self.yard;
         ranges_hold(yard)
@@ -34,11 +35,11 @@ impl Session {
     }
 
     // Is the row saved before step t sound, by the same rule.
-    pub(super) fn row_sound(self, lent: Buffers, t: u32) -> bool
-        requires world { WorldFits (world_in self (lent_of lent)) }
-        requires room { RowsFit (world_in self (lent_of lent)) lent.rows.now }
-        ensures rule { result ≡ sound_state (world_in self (lent_of lent.entry))
-            (row_in self (lent_of lent.entry) t) }
+    pub(super) fn row_sound(&self, lent: &Buffers, t: u32) -> bool
+        requires world { WorldFits (world_in self.now (lent_of lent.now)) }
+        requires room { RowsFit (world_in self.now (lent_of lent.now)) lent.now.rows.now }
+        ensures rule { result ≡ sound_state (world_in self.now (lent_of lent.now))
+            (row_in self.now (lent_of lent.now) t) }
     {
         let yard = self.yard;
         let site = Site {

@@ -9,6 +9,7 @@ use native.Mathlib.Omega.{arith}
 use lib.Ieee.{Float, nan}
 use lib.ListN.{length, take, drop, get_or, set}
 use lib.Seq.{drop-cons, drop-drop, drop-length, get_or-drop, take-suc-set, take_all}
+use borrow.Rule.Slice.PartMut.{put_mid}
 use borrow.Author.Tests.{eq-eqb, ne_eqb, le-leb, lt-leb}
 use Rattle.basis.specs.Numbers.{ROOM, ROPE}
 use Rattle.basis.specs.Order.{answer, refused, accepted, and_then, give}
@@ -16,7 +17,8 @@ use Rattle.basis.proofs.Order.{passes, fails, gives, given, apart, stops, goes_o
 use Rattle.rope.specs.Step.{rope_order}
 use Rattle.rope.specs.declared.Point.{Point}
 use Rattle.rope.specs.declared.Force.{Force}
-use Rattle.rope.proofs.Steps.{too_many}
+use Rattle.rope.proofs.Steps.{too_many, same_counted}
+use Rattle.std.proofs.lemmas.Slice.{take-put_mid}
 use Rattle.station.specs.Ropes.{kinds_hold, force_of, forces_of, forces_order, point_of, rope_face}
 
 -- One more element, put behind those that are in it already.
@@ -177,3 +179,13 @@ module _ (kinds : List ℕ) (numbers point : List Float) where
               → answer (rope_order (point_of point) forces (length forces)) ≡ accepted next
               → answer (rope_face kinds numbers point) ≡ accepted (next.place ∷ next.speed ∷ [])
           step_moved e = decides ∙ goes_on _ _ e ∙ gives _
+
+-- Of an array whose front they are put into, so many forces count: those.
+pub front_counts : (point : Point) (forces array : List Force) (n : ℕ) → length forces ≡ n
+    → answer (rope_order point forces (length forces))
+    ≡ answer (rope_order point (put_mid 0 n array forces) n)
+front_counts point forces array n long =
+    rw long
+    (same_counted point forces (put_mid 0 n array forces) n
+    (take_all n forces (omega (arith, long))
+    ∙ sym (take-put_mid 0 n array forces n (omega (arith, long)) (omega arith))))

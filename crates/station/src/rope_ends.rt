@@ -76,10 +76,9 @@ fn step_in(kinds: &[u32], numbers: &[f64], words: &mut [f64]) -> Result<u32, Ref
     if kinds.len() > Force::MOST {
         return Err(Refusal::Rope);
     }
-    let mut room = [Force::Pull(0.0); Force::MOST];
-    let forces = &mut room[..kinds.len()];
-    put_forces(kinds, numbers, forces)?;
-    let next = Point { place, speed }.step(forces)?;
+    let mut forces = [Force::Pull(0.0); Force::MOST];
+    put_forces(kinds, numbers, &mut forces[..kinds.len()])?;
+    let next = Point { place, speed }.step_counted(&forces, kinds.len())?;
     words[0] = next.place;
     words[1] = next.speed;
     Ok(Face::DONE)

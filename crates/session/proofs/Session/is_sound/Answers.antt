@@ -7,5 +7,5 @@ use Rattle.session.proofs.Session.is_sound.Goals as goal
 pub invariant_of-state_sound : goal.invariant_of-state_sound
 invariant_of-state_sound c =
     record {
-      fits = world_fitting _ (lent_of c.args.lent) (grind arith) (grind arith) (grind arith);
+      fits = world_fitting _ (lent_of c.args.lent.now) (grind arith) (grind arith) (grind arith);
     }
